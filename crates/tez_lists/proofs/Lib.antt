@@ -1,0 +1,5 @@
+pub mod Cases
+pub mod Flat
+pub mod Ranges
+pub mod Sums
+pub mod Tables
