@@ -1,5 +1,6 @@
 pub mod Cases
 pub mod Flat
+pub mod Members
 pub mod Ranges
 pub mod Sums
 pub mod Tables
