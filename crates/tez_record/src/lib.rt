@@ -8,6 +8,11 @@ mod owned;
 mod records;
 mod sort_key;
 
+pub use fields::{field, key, number, number_of, push_key};
+pub use find::contains;
+pub use owned::{Record, is_record};
+pub use records::{Iter, Records, bag_sort, bag_text, lines, lines_of};
+
 ghost use Rattle.std.specs.Prelude.{◌≡◌, ℕ, List, IsSorted, count_by};
 ghost use Rattle.std.specs.List.{AllByRecursion};
 ghost use Rattle.std.specs.Str.{bytes_eq};
