@@ -1,8 +1,10 @@
 //! The numbers of the parts of a job, and the small list types that several crates share.
 #![tactic(auto)]
 
+mod fixed;
 mod name;
 
+pub use fixed::{read_fixed, write_fixed};
 pub use name::{Bytes, Name};
 
 /// The master's life: it counts the masters that worked on a job, from 1.

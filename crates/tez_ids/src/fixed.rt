@@ -1,0 +1,83 @@
+ghost use Rattle.std.specs.Prelude.{◌≡◌, ◌+◌, ◌≤◌, length, slice_range};
+ghost use Rattle.std.specs.Int.{w16, w32, w64, to_le_bytes};
+ghost use Rattle.tez_ids.specs.Fixed.{fixed, FitsFixed};
+
+use crate::{AttemptId, Epoch, TaskId, VertexId};
+
+/// Writes an attempt in 22 bytes: its epoch in 8, its vertex in 2, its index in 4 and its number
+/// in 8, each with the least byte first.
+pub fn write_fixed(a: AttemptId, into: &mut [u8; 22])
+    ensures { into.new ≡ fixed a }
+{
+    into[..8].copy_from_slice(&a.epoch.0.to_le_bytes());
+    into[8..10].copy_from_slice(&a.task.vertex.0.to_le_bytes());
+    into[10..14].copy_from_slice(&a.task.index.to_le_bytes());
+    into[14..].copy_from_slice(&a.number.to_le_bytes());
+}
+
+/// Reads what `write_fixed` wrote. Each 22 bytes are those of one attempt.
+pub fn read_fixed(bytes: &[u8; 22]) -> AttemptId
+    ensures value { fixed result ≡ bytes.now }
+    ensures inverse { (a : AttemptId) → FitsFixed a → bytes.now ≡ fixed a → result ≡ a }
+{
+    AttemptId {
+        epoch: Epoch(u64_at(bytes, 0)),
+        task: TaskId {
+            vertex: VertexId(u16_at(bytes, 8)),
+            index: u32_at(bytes, 10),
+        },
+        number: u64_at(bytes, 14),
+    }
+}
+
+fn u16_at(bytes: &[u8], at: usize) -> u16
+    requires { at + 2 ≤ length bytes.now }
+    ensures { to_le_bytes w16 result ≡ slice_range bytes.now at (at + 2) }
+{
+    let mut word = [0; 2];
+    word.copy_from_slice(&bytes[at..at + 2]);
+    u16::from_le_bytes(word)
+}
+
+fn u32_at(bytes: &[u8], at: usize) -> u32
+    requires { at + 4 ≤ length bytes.now }
+    ensures { to_le_bytes w32 result ≡ slice_range bytes.now at (at + 4) }
+{
+    let mut word = [0; 4];
+    word.copy_from_slice(&bytes[at..at + 4]);
+    u32::from_le_bytes(word)
+}
+
+fn u64_at(bytes: &[u8], at: usize) -> u64
+    requires { at + 8 ≤ length bytes.now }
+    ensures { to_le_bytes w64 result ≡ slice_range bytes.now at (at + 8) }
+{
+    let mut word = [0; 8];
+    word.copy_from_slice(&bytes[at..at + 8]);
+    u64::from_le_bytes(word)
+}
+
+#[cfg(test)]
+mod tests {
+    use super::{read_fixed, write_fixed};
+    use crate::{AttemptId, Epoch, TaskId, VertexId};
+
+    #[test]
+    fn attempt_and_bytes(rt: HostRuntime) {
+        let a = AttemptId {
+            epoch: Epoch(1),
+            task: TaskId {
+                vertex: VertexId(0),
+                index: 2,
+            },
+            number: 3,
+        };
+        let mut bytes = [9; 22];
+        write_fixed(a, &mut bytes);
+        let row = [
+            1, 0, 0, 0, 0, 0, 0, 0, 0, 0, 2, 0, 0, 0, 3, 0, 0, 0, 0, 0, 0, 0,
+        ];
+        assert_eq!(rt; bytes, row);
+        assert_eq!(rt; read_fixed(&row), a);
+    }
+}
