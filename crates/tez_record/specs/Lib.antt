@@ -1,0 +1,5 @@
+pub mod Line
+pub mod Field
+pub mod Bag
+pub mod Block
+pub mod Front
