@@ -1,1 +1,2 @@
 pub mod FixedForm
+pub mod Sameness

@@ -1,7 +1,7 @@
-ghost use Rattle.std.specs.Prelude.{◌≡◌, ◌+◌, ◌≤◌, length, slice_range};
-ghost use Rattle.std.specs.Int.{w16, w32, w64, to_le_bytes};
+ghost use Rattle.std.specs.Prelude.{◌≡◌};
 ghost use Rattle.tez_ids.specs.Fixed.{fixed, FitsFixed};
 
+use crate::words::{u16_at, u32_at, u64_at};
 use crate::{AttemptId, Epoch, TaskId, VertexId};
 
 /// Writes an attempt in 22 bytes: its epoch in 8, its vertex in 2, its index in 4 and its number
@@ -28,33 +28,6 @@ pub fn read_fixed(bytes: &[u8; 22]) -> AttemptId
         },
         number: u64_at(bytes, 14),
     }
-}
-
-fn u16_at(bytes: &[u8], at: usize) -> u16
-    requires { at + 2 ≤ length bytes.now }
-    ensures { to_le_bytes w16 result ≡ slice_range bytes.now at (at + 2) }
-{
-    let mut word = [0; 2];
-    word.copy_from_slice(&bytes[at..at + 2]);
-    u16::from_le_bytes(word)
-}
-
-fn u32_at(bytes: &[u8], at: usize) -> u32
-    requires { at + 4 ≤ length bytes.now }
-    ensures { to_le_bytes w32 result ≡ slice_range bytes.now at (at + 4) }
-{
-    let mut word = [0; 4];
-    word.copy_from_slice(&bytes[at..at + 4]);
-    u32::from_le_bytes(word)
-}
-
-fn u64_at(bytes: &[u8], at: usize) -> u64
-    requires { at + 8 ≤ length bytes.now }
-    ensures { to_le_bytes w64 result ≡ slice_range bytes.now at (at + 8) }
-{
-    let mut word = [0; 8];
-    word.copy_from_slice(&bytes[at..at + 8]);
-    u64::from_le_bytes(word)
 }
 
 #[cfg(test)]
