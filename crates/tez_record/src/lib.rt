@@ -7,6 +7,8 @@ mod find;
 mod owned;
 mod records;
 mod sort_key;
+#[cfg(test)]
+mod tests;
 
 pub use fields::{field, key, number, number_of, push_key};
 pub use find::contains;
