@@ -2,10 +2,10 @@
 --     InOrder cmp xs       each element comes before each later one, or ties with it
 --     InOrder-from, IsSorted-from      this is the order of neighbours, as sorts ensure it
 --     same_sorted          two lists in order with the same elements are one list
-use Rattle.std.proofs.Common.{◌≡◌, ℕ, suc, zero, ◌+◌, ◌<◌, ◌≤◌, Bool, true, false, cond, List, [], ◌∷◌, length, refl, sym, ap, ◌∙◌, subst, arith, sum_by, is_le, is_lt, is_gt, is_eq, Less, Equal, Greater, Ordering, IsPermutation, IsSorted, slice_index_or}
+use Rattle.std.proofs.Common.{◌≡◌, ℕ, suc, zero, ◌+◌, ◌<◌, true, false, cond, List, [], ◌∷◌, refl, sym, ap, ◌∙◌, subst, arith, sum_by, is_lt, is_gt, is_eq, Less, Equal, Greater, Ordering, IsPermutation, IsSorted, slice_index_or}
 use Rattle.std.specs.List.{AllByRecursion}
 use Rattle.std.specs.Ordering.{ordering_reverse}
-use Rattle.std.specs.Cmp.{IsTotalOrder, upto, tied_itself, tied_back}
+use Rattle.std.specs.Cmp.{IsTotalOrder, upto, tied_itself}
 use Rattle.std.specs.FinMap.{IsAntisymmetric}
 use Rattle.std.proofs.lemmas.List.Sums.{sum_by-cons}
 use Rattle.std.proofs.lemmas.List.Sorted.{sum_by-IsPermutation}

@@ -1,16 +1,16 @@
 -- What a call of `route` lists.
 --     only_slot          where one slot leads to an output, and this one does, it is the whole list
 --     broadcast_route    an output of a broadcast goes to each consumer, at the input of its source
-use Rattle.std.proofs.Common.{◌≡◌, ◌⊎◌, ℕ, ◌+◌, ◌-◌, ◌*◌, ◌/◌, ◌%◌, ◌<◌, ◌≤◌, ◌==◌, ◌&&◌, zero, suc, Bool, true, false, cond, List, [], ◌∷◌, ◌++◌, length, map, refl, sym, ap, ap₂, ◌∙◌, subst, arith, filter, flat_map, eqb-true, eq-eqb, zero-add, div-add-mod', mod-lt, inl, inr}
+use Rattle.std.proofs.Common.{◌≡◌, ℕ, ◌+◌, ◌-◌, ◌*◌, ◌/◌, ◌<◌, ◌≤◌, ◌==◌, ◌&&◌, Bool, true, false, List, [], ◌∷◌, ◌++◌, length, map, refl, sym, ap, ◌∙◌, arith, filter, flat_map, eq-eqb, zero-add, div-add-mod', mod-lt}
 use Rattle.std.specs.List.{range_with_len}
-use Rattle.std.proofs.lemmas.Bool.{and_from, eqb-false}
+use Rattle.std.proofs.lemmas.Bool.{and_from}
 use Rattle.std.proofs.lemmas.List.Concat.{flat_map_single}
 use Rattle.std.proofs.Math.Arith.{digits_lt, digits_div, digits_mod}
 use Rattle.std.proofs.lemmas.List.{map-append}
 use Rattle.tez_lists.proofs.Ranges.{range_more}
 use Rattle.tez_lists.specs.Numbers.{In}
 use Rattle.tez_lists.proofs.Members.{in_filter, in_map, in_flat_map, in_range_from, only_one}
-use Rattle.tez_shrink.specs.Formulas.{tasks_of, first_of, end_of}
+use Rattle.tez_shrink.specs.Formulas.{first_of, end_of}
 use Rattle.tez_shrink.proofs.RangeLemmas.{tasks_enough}
 use Rattle.tez_tables.specs.Table.{Table, slots, route, one_to_one, broadcast, scatter_gather}
 use Rattle.tez_tables.proofs.TableLemmas.{one_to_one_law, scatter_gather_law, route_is, one_left}

@@ -12,9 +12,8 @@ use Rattle.tez_lists.proofs.Sums.{sum_by-ext}
 use Rattle.tez_lists.proofs.Ranges.{one_in_range}
 use Rattle.tez_shrink.specs.Formulas.{tasks_of, first_of, end_of}
 use Rattle.tez_shrink.proofs.RangeLemmas.{range_is_quotient, tasks_enough}
-use Rattle.std.proofs.Common.{inl, inr, ◌⊎◌}
-use Rattle.tez_lists.specs.Numbers.{In}
-use Rattle.tez_tables.specs.Table.{Table, slots, route, StaysInside, HasOneConsumer, ReachesEachConsumer, IsCovered, one_to_one, broadcast, scatter_gather}
+use Rattle.std.proofs.Common.{inl, inr}
+use Rattle.tez_tables.specs.Table.{Table, route, StaysInside, HasOneConsumer, ReachesEachConsumer, IsCovered, one_to_one, broadcast, scatter_gather}
 
 -- the numbers below n that are v
 none_left : (v a n : ℕ) → v < a → filter (λ p. p == v) (range_with_len a n) ≡ []

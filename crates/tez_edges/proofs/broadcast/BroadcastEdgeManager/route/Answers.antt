@@ -1,4 +1,4 @@
-use Rattle.std.proofs.Common.{◌∙◌, sym, rules}
+use Rattle.std.proofs.Common.{rules}
 use Rattle.tez_tables.proofs.RouteLemmas.{broadcast_route, consumers_more}
 use Rattle.tez_edges.proofs.broadcast.BroadcastEdgeManager.route.Goals as goal
 

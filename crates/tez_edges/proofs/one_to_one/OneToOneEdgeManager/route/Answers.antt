@@ -1,4 +1,4 @@
-use Rattle.std.proofs.Common.{◌∙◌, sym, rules}
+use Rattle.std.proofs.Common.{rules}
 use Rattle.tez_tables.proofs.RouteLemmas.{one_to_one_route}
 use Rattle.tez_edges.proofs.one_to_one.OneToOneEdgeManager.route.Goals as goal
 

@@ -1,4 +1,4 @@
-use Rattle.std.proofs.Common.{◌∙◌, sym, rules}
+use Rattle.std.proofs.Common.{rules}
 use Rattle.tez_tables.proofs.RouteLemmas.{scatter_gather_route}
 use Rattle.tez_edges.proofs.scatter_gather.ScatterGatherEdgeManager.route.Goals as goal
 
