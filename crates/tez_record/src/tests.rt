@@ -3,7 +3,7 @@ use crate::{
     Record, Records,
 };
 
-ghost use Rattle.std.specs.Prelude.{◌≡◌, IfOk, ℤ, int_lt};
+ghost use Rattle.std.specs.Prelude.{◌≡◌, IfOk, int_lt, false};
 ghost use Rattle.std.specs.List.{filter};
 ghost use Rattle.std.specs.Option.{option_map_or};
 ghost use Rattle.tez_record.specs.Field.{field, number};
