@@ -1,6 +1,7 @@
 //! Input files in memory.
 ghost use Rattle.std.specs.Prelude.{◌≡◌, ◌≤◌, ◌<◌, [], ℕ, Some, length, IfOk, IsErrOf, IsSomeAnd};
 ghost use Rattle.tez_ports.specs.Content.{bytes_of};
+ghost use Rattle.tez_ports_mem.specs.Lists.{failing_reads, reads_so_far};
 
 use crate::calls::{Calls, Due};
 use crate::named::find;
@@ -22,6 +23,8 @@ impl MemFiles {
         ensures files { ⟦<MemFiles as InputFiles>⟧.files result ≡ Some entries.items }
         ensures faults { ⟦<MemFiles as InputFiles>⟧.faults result ≡ 0 }
         ensures failed { ⟦<MemFiles as InputFiles>⟧.failed result ≡ [] }
+        ensures failing { failing_reads result ≡ fail.items }
+        ensures count { reads_so_far result ≡ 0 }
     {
         MemFiles {
             entries,

@@ -1,5 +1,6 @@
 //! A text in memory.
 ghost use Rattle.std.specs.Prelude.{◌≡◌, [], ℕ, Some};
+ghost use Rattle.tez_ports_mem.specs.Lists.{failing_writes, writes_so_far};
 
 use crate::calls::{Calls, Due};
 use std::alloc::Global;
@@ -17,6 +18,8 @@ impl MemOut {
     pub fn new(fail: Vec<u64>, alloc: Global) -> Self
         ensures written { ⟦<MemOut as TextOut>⟧.written result ≡ Some [] }
         ensures faults { ⟦<MemOut as TextOut>⟧.faults result ≡ 0 }
+        ensures failing { failing_writes result ≡ fail.items }
+        ensures count { writes_so_far result ≡ 0 }
     {
         MemOut {
             written: Vec::new(alloc),

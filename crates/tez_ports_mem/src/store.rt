@@ -1,6 +1,7 @@
 //! An output store in memory.
 ghost use Rattle.std.specs.Prelude.{◌≡◌, [], ℕ, Some, option_map};
 ghost use Rattle.tez_ports.specs.Content.{Store};
+ghost use Rattle.tez_ports_mem.specs.Lists.{calls_so_far, failing_calls, stopped_calls};
 
 use crate::calls::{Calls, Due};
 use crate::contents::Contents;
@@ -25,6 +26,9 @@ impl MemStore {
             ≡ Some (record { staged = []; readied = []; publications = []; stage_calls = [] }) }
         ensures faults { ⟦<MemStore as OutputStore>⟧.faults result ≡ 0 }
         ensures stops { ⟦<MemStore as OutputStore>⟧.stops result ≡ 0 }
+        ensures failing { failing_calls result ≡ fail.items }
+        ensures stopped { stopped_calls result ≡ stop.items }
+        ensures count { calls_so_far result ≡ 0 }
     {
         MemStore {
             contents: Contents::new(alloc),
