@@ -1,6 +1,7 @@
 -- What devices hold, where they tell it.
-use Rattle.std.specs.Prelude.{◌≡◌, ◌⊎◌, ◌≤◌, ℕ, List, [], ◌∷◌, ◌++◌, filter, not, Bool, ◌&&◌, ◌==◌, bytes_eq, if◌then◌else◌, Option, Some, None, option_map, is_some, Result, OnOk, OnErr}
+use Rattle.std.specs.Prelude.{◌≡◌, ◌⊎◌, ℕ, List, [], ◌∷◌, ◌++◌, filter, not, bytes_eq, if◌then◌else◌, Option, Some, None, option_map}
 use Rattle.tez_ids.specs.declared.AttemptId.{AttemptId}
+use Rattle.tez_ids.specs.Same.{same_attempt}
 
 -- names, each with its bytes; the first of a name counts
 abbrev pub Named : Type 0
@@ -13,10 +14,6 @@ bytes_of name (entry ∷ rest) = if bytes_eq entry.0 name then Some entry.1 else
 -- the entries of other names
 abbrev pub without : List ℕ → Named → Named
 without name entries = filter (λ entry. not (bytes_eq entry.0 name)) entries
-
--- one attempt is the other
-abbrev pub same_attempt : AttemptId → AttemptId → Bool
-same_attempt a b = (a.epoch.0 == b.epoch.0) && (a.task.vertex.0 == b.task.vertex.0) && (a.task.index == b.task.index) && (a.number == b.number)
 
 -- attempts, each with its bytes; the first of an attempt counts
 abbrev pub Staged : Type 0

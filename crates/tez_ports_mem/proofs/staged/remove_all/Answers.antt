@@ -1,6 +1,6 @@
 use Rattle.std.proofs.Common.{not, rules}
 use Rattle.std.proofs.lemmas.Fn.{filter_same}
-use Rattle.tez_ports.specs.Content.{same_attempt}
+use Rattle.tez_ids.specs.Same.{same_attempt}
 use Rattle.tez_ports_mem.proofs.staged.remove_all.Goals as goal
 
 pub returns-clause-rest : goal.returns-clause-rest
