@@ -2,6 +2,9 @@
 #![tactic(auto)]
 
 mod block;
+mod fields;
+mod find;
+mod owned;
 mod records;
 mod sort_key;
 
@@ -10,6 +13,9 @@ ghost use Rattle.std.specs.List.{AllByRecursion};
 ghost use Rattle.tez_record.specs.Line.{lines, IsRecord};
 ghost use Rattle.tez_record.specs.Bag.{text};
 
+pub use fields::{field, key, number, number_of, push_key};
+pub use find::contains;
+pub use owned::{Record, is_record};
 pub use records::{Iter, Records, bag_sort, bag_text, lines, lines_of};
 
 /// The lines of the text of records are these records.

@@ -1,9 +1,10 @@
 // Records in one block of text, each ended by a line feed.
-ghost use Rattle.std.specs.Prelude.{◌≡◌, ℕ, List, [], ◌∷◌, ◌++◌, if◌then◌else◌, is_ok, OnOk, IfOk, length};
-ghost use Rattle.std.specs.List.{AllByRecursion};
+ghost use Rattle.std.specs.Prelude.{◌≡◌, ℕ, List, [], ◌∷◌, ◌++◌, if◌then◌else◌, is_ok, OnOk, IfOk, length, Bool};
+ghost use Rattle.std.specs.List.{AllByRecursion, filter};
 ghost use Rattle.std.specs.Iterator.{YieldsFirstRef, item_count};
 ghost use Rattle.tez_record.specs.Line.{lines, IsRecord};
 ghost use Rattle.tez_record.specs.Bag.{sort, text};
+ghost use Rattle.tez_record.specs.Test.{IsTestOf};
 
 use crate::block::{first_line, push_end, push_line};
 use crate::sort_key::SortKey;
@@ -98,6 +99,20 @@ impl Records {
         Ok(Records {
             bytes: Vec::from_slice(alloc, self.bytes.as_slice())?,
         })
+    }
+
+    /// The records that pass a test, in their order. Linear in the text, beside the calls of the test.
+    pub fn kept<F: Fn(&[u8]) -> bool>(&self, alloc: Global, test: F) -> Result<Records, AllocError>
+        requires { F.IsAlwaysCallable test }
+        ensures { (p : List ℕ → Bool) → IsTestOf F.Fn test p → IfOk result (λ rs. rs ≡ filter p self.now) }
+    {
+        let mut kept = Records::new(alloc);
+        for line in self.iter() {
+            if test(line) {
+                kept.push(line)?;
+            }
+        }
+        Ok(kept)
     }
 
     /// The same records in byte order. For n records it takes n log n comparisons, most of them of
