@@ -1,5 +1,5 @@
 -- What devices hold, where they tell it.
-use Rattle.std.specs.Prelude.{◌≡◌, ◌⊎◌, ◌≤◌, ℕ, List, [], ◌∷◌, ◌++◌, length, Bool, ◌&&◌, ◌==◌, bytes_eq, if◌then◌else◌, Option, Some, None, option_map, is_some, Result, OnOk, OnErr}
+use Rattle.std.specs.Prelude.{◌≡◌, ◌⊎◌, ◌≤◌, ℕ, List, [], ◌∷◌, ◌++◌, filter, not, Bool, ◌&&◌, ◌==◌, bytes_eq, if◌then◌else◌, Option, Some, None, option_map, is_some, Result, OnOk, OnErr}
 use Rattle.tez_ids.specs.declared.AttemptId.{AttemptId}
 
 -- names, each with its bytes; the first of a name counts
@@ -12,8 +12,7 @@ bytes_of name (entry ∷ rest) = if bytes_eq entry.0 name then Some entry.1 else
 
 -- the entries of other names
 abbrev pub without : List ℕ → Named → Named
-without name [] = []
-without name (entry ∷ rest) = if bytes_eq entry.0 name then without name rest else entry ∷ without name rest
+without name entries = filter (λ entry. not (bytes_eq entry.0 name)) entries
 
 -- one attempt is the other
 abbrev pub same_attempt : AttemptId → AttemptId → Bool
@@ -53,8 +52,7 @@ staged_at attempt (entry ∷ rest) = if same_attempt entry.0 attempt then Some e
 
 -- the entries of other attempts
 abbrev pub without_attempt : AttemptId → Staged → Staged
-without_attempt attempt [] = []
-without_attempt attempt (entry ∷ rest) = if same_attempt entry.0 attempt then without_attempt attempt rest else entry ∷ without_attempt attempt rest
+without_attempt attempt entries = filter (λ entry. not (same_attempt entry.0 attempt)) entries
 
 -- the attempt's bytes are put aside, in place of any before, and the call is noted
 abbrev pub stages : AttemptId → List ℕ → Store → Store
