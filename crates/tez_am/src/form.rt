@@ -122,7 +122,7 @@ fn is_each_head(head: &Value) -> bool
 
 #[derive(Clone, Copy)]
 struct Contains<'v> {
-    column: u64,
+    column: u16,
     value: &'v str,
 }
 
@@ -136,7 +136,10 @@ fn filter<'v>(step: &'v Value) -> Option<Contains<'v>>
     let column = number(step, "field")?;
     let value = text(step, "value")?;
     if column <= 255 && value.len() <= 255 {
-        Some(Contains { column, value })
+        Some(Contains {
+            column: column as u16,
+            value,
+        })
     } else {
         None
     }
@@ -146,7 +149,7 @@ fn filter<'v>(step: &'v Value) -> Option<Contains<'v>>
 #[derive(Clone, Copy)]
 pub struct FormRef<'v> {
     source: &'v str,
-    column: u64,
+    column: u16,
     value: &'v str,
     sink: &'v str,
 }

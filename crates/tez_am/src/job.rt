@@ -6,7 +6,7 @@ use tez_ids::{Bytes, Name};
 #[derive(Debug, Drop)]
 pub struct Form {
     pub source: Name,
-    pub column: u64,
+    pub column: u16,
     pub value: Bytes,
     pub sink: Name,
 }
