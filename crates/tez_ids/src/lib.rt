@@ -1,9 +1,13 @@
 //! The numbers of the parts of a job, and the small list types that several crates share.
 #![tactic(auto)]
 
+mod fixed;
 mod name;
+mod words;
 
+pub use fixed::{read_fixed, write_fixed};
 pub use name::{Bytes, Name};
+pub use words::{u16_at, u32_at, u64_at};
 
 /// The master's life: it counts the masters that worked on a job, from 1.
 #[derive(Clone, Copy, Debug, PartialEq, Eq, PartialOrd, Ord, Hash)]

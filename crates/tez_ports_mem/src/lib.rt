@@ -27,3 +27,6 @@ pub use store::MemStore;
 pub use sure_files::SureFiles;
 pub use sure_out::SureOut;
 pub use sure_store::SureStore;
+
+#[cfg(test)]
+mod tests;

@@ -1,10 +1,14 @@
 -- Fields, numbers and keys.
-use Rattle.std.proofs.Common.{◌≡◌, ℕ, zero, suc, ◌+◌, ◌-◌, ◌<◌, ◌≤◌, ◌^◌, List, [], ◌∷◌, ◌++◌, map, length, take, drop, get_or, refl, sym, ap, ◌∙◌, subst, arith, slice_index_or, append_assoc, length-take}
-use Rattle.std.specs.List.{join_with_byte}
+use Rattle.std.proofs.Common.{◌≡◌, ℕ, zero, suc, ◌+◌, ◌-◌, ◌<◌, ◌≤◌, ◌^◌, ◌==◌, false, List, [], ◌∷◌, ◌++◌, map, length, take, drop, get_or, refl, sym, ap, ◌∙◌, subst, arith, slice_index_or, append_assoc, length-take}
+use Rattle.std.specs.List.{join_with_byte, list_any, onto_first, AllByRecursion}
 use Rattle.std.proofs.lemmas.List.{get_or-drop, drop-drop, take_more, map-append, length-map}
+use Rattle.std.proofs.lemmas.List.Folds.{list_any-append}
+use Rattle.std.proofs.lemmas.Bool.{or_from, or_parts}
 use Rattle.std.proofs.Math.Nat.{pow-le-pow_right}
 use Rattle.memchr.specs.Find.{is_byte, Nowhere, Passes}
+use Rattle.tez_lists.proofs.Cases.{cases}
 use Rattle.tez_lists.proofs.Flat.{append-nil}
+use Rattle.tez_record.specs.Line.{IsRecord}
 use Rattle.tez_record.specs.Field.{fields, field, key}
 use Rattle.tez_record.proofs.SplitLemmas.{split_none, split_some}
 
@@ -67,3 +71,31 @@ next_pushed old was mid new f r cols n c some low is tab field_is pushed =
     let k = key (take n cols) r in
     pushed ∙ ap (λ xs. xs ++ f) (tab ∙ ap (λ xs. xs ++ 9 ∷ []) is ∙ append_assoc old k (9 ∷ [])) ∙ append_assoc old (k ++ 9 ∷ []) f
     ∙ ap (λ xs. old ++ ((k ++ 9 ∷ []) ++ xs)) field_is ∙ ap (λ xs. old ++ xs) (sym (next_column r cols n c some low))
+
+-- fields and keys of a record are records
+onto_record : (b : ℕ) (fs : List (List ℕ)) → (b == 10) ≡ false → AllByRecursion IsRecord fs → AllByRecursion IsRecord (onto_first b fs)
+onto_record b [] e h = (or_from (b == 10) false e refl, tt)
+onto_record b (f ∷ fs) e h = (or_from (b == 10) (list_any (λ x. x == 10) f) e h.0, h.1)
+
+fields_are_records : (r : List ℕ) → IsRecord r → AllByRecursion IsRecord (fields r)
+fields_are_records [] h = (refl, tt)
+fields_are_records (b ∷ r) h =
+    let parts = or_parts (b == 10) (list_any (λ x. x == 10) r) h in
+    let rest = fields_are_records r parts.1 in
+    cases (b == 9) (λ e. rw e (refl, rest)) (λ e. rw e (onto_record b (fields r) parts.0 rest))
+
+one_of : (fs : List (List ℕ)) (i : ℕ) → AllByRecursion IsRecord fs → IsRecord (get_or fs i [])
+one_of [] i h = refl
+one_of (f ∷ fs) zero h = h.0
+one_of (f ∷ fs) (suc i) h = one_of fs i h.1
+
+pub field_is_record : (r : List ℕ) (i : ℕ) → IsRecord r → IsRecord (field r i)
+field_is_record r i h = one_of (fields r) i (fields_are_records r h)
+
+pub joined_is_record : (left right : List ℕ) → IsRecord left → IsRecord right → IsRecord (left ++ 9 ∷ right)
+joined_is_record left right h k = list_any-append (λ x. x == 10) left (9 ∷ right) ∙ or_from (list_any (λ x. x == 10) left) (list_any (λ x. x == 10) right) h k
+
+pub key_is_record : (r cols : List ℕ) → IsRecord r → IsRecord (key cols r)
+key_is_record r [] h = refl
+key_is_record r (c ∷ []) h = field_is_record r c h
+key_is_record r (c ∷ d ∷ cols) h = joined_is_record (field r c) (key (d ∷ cols) r) (field_is_record r c h) (key_is_record r (d ∷ cols) h)

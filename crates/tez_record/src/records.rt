@@ -1,12 +1,13 @@
 // Records in one block of text, each ended by a line feed.
-ghost use Rattle.std.specs.Prelude.{◌≡◌, ℕ, List, [], ◌∷◌, ◌++◌, if◌then◌else◌, is_ok, OnOk, IfOk, length, Bool};
+ghost use Rattle.std.specs.Prelude.{◌≡◌, ◌↔◌, ℕ, List, [], ◌∷◌, ◌++◌, if◌then◌else◌, IsTrue, is_ok, OnOk, IfOk, length, Bool};
 ghost use Rattle.std.specs.List.{AllByRecursion, filter};
 ghost use Rattle.std.specs.Iterator.{YieldsFirstRef, item_count};
 ghost use Rattle.tez_record.specs.Line.{lines, IsRecord};
 ghost use Rattle.tez_record.specs.Bag.{sort, text};
 ghost use Rattle.tez_record.specs.Test.{IsTestOf};
+ghost use Rattle.tez_record.specs.Field.{key};
 
-use crate::block::{first_line, push_end, push_line};
+use crate::block::{first_line, push_end, push_fields_line, push_key_line, push_line};
 use crate::sort_key::SortKey;
 use std::alloc::{AllocError, Global};
 use std::marker::Model;
@@ -48,6 +49,23 @@ impl Records {
         push_line(&mut self.bytes, line)
     }
 
+    /// Adds the key of a record at the end, as `key` makes it, or nothing.
+    pub fn push_key(&mut self, r: &[u8], cols: &[u16]) -> Result<(), AllocError>
+        requires { IsRecord r.now }
+        ensures { self.new ≡ (if is_ok result then self.old ++ key cols.now r.now ∷ [] else self.old) }
+    {
+        push_key_line(&mut self.bytes, r, cols)
+    }
+
+    /// Adds a record at the end that is one record, a tab and another one, or nothing.
+    pub fn push_joined(&mut self, left: &[u8], right: &[u8]) -> Result<(), AllocError>
+        requires left { IsRecord left.now }
+        requires right { IsRecord right.now }
+        ensures { self.new ≡ (if is_ok result then self.old ++ (left.now ++ 9 ∷ right.now) ∷ [] else self.old) }
+    {
+        push_fields_line(&mut self.bytes, left, right)
+    }
+
     /// Adds all records of another list at the end, or none. Linear in the other list's text, on average.
     pub fn append(&mut self, other: &Records) -> Result<(), AllocError>
         ensures { self.new ≡ (if is_ok result then self.old ++ other.now else self.old) }
@@ -74,6 +92,12 @@ impl Records {
         ensures { result.items ≡ text self }
     {
         self.bytes
+    }
+
+    pub fn is_empty(&self) -> bool
+        ensures { IsTrue result ↔ (self.now ≡ []) }
+    {
+        self.bytes.is_empty()
     }
 
     /// How many records there are. It looks at each byte of the text.
