@@ -32,6 +32,16 @@ pub record Call : Type 0 where
   pub store : Stored
   pub out : Writes
 
+-- those of devices before and after a call, by what the devices tell
+abbrev pub reads_of : {A : Type 0} → (A → Option Named) → (A → ℕ) → (A → List ℕ) → A → A → Reads
+reads_of files faults failed old new = record { files = files old; before = faults old; now = faults new; failed = failed new }
+
+abbrev pub stored_of : {A : Type 0} → (A → Option Store) → (A → ℕ) → (A → ℕ) → A → A → Stored
+stored_of store faults stops old new = record { old = store old; new = store new; before = faults old; now = faults new; stops_before = stops old; stops_now = stops new }
+
+abbrev pub writes_of : {A : Type 0} → (A → Option (List ℕ)) → (A → ℕ) → A → A → Writes
+writes_of written faults old new = record { old = written old; new = written new; before = faults old; now = faults new }
+
 -- a call of the store failed, or was stopped
 abbrev pub StoreFailed : Stored → Type 0
 StoreFailed store = Rose store.before store.now ⊎ Rose store.stops_before store.stops_now

@@ -21,5 +21,5 @@ text_of (Err refusal) = status_text refusal
 -- all of the text was written, and the answer stands; or out failed; or memory is short
 abbrev pub Said : Status → List ℕ → Writes → Status → Type 0
 Said status text out answer = ((answer ≡ status) × Wrote text out)
-  ⊎ ((answer ≡ OutFault) × (status ≢ NoMemory) × Rose out.before out.now × WrotePart text out)
-  ⊎ ((answer ≡ NoMemory) × SaidNoMemory out)
+    ⊎ ((answer ≡ OutFault) × (status ≢ NoMemory) × Rose out.before out.now × WrotePart text out)
+    ⊎ ((answer ≡ NoMemory) × SaidNoMemory out)

@@ -2,6 +2,7 @@
 ghost use Rattle.std.specs.Prelude.{◌≡◌, ◌≤◌, ◌≢◌, ◌⊎◌, ℕ, List, Some, None, IfOk, IfErr};
 ghost use Rattle.serde_json.specs.View.{view};
 ghost use Rattle.tez_ports.specs.Content.{Told};
+ghost use Rattle.tez_am.specs.Call.{reads_of};
 ghost use Rattle.tez_am.specs.Accept.{form_at, job_at};
 ghost use Rattle.tez_am.specs.Cause.{Refusal};
 ghost use Rattle.tez_am.specs.Form.{json_of, form_of};
@@ -60,8 +61,7 @@ fn read_form<F: InputFiles>(alloc: Global, word: &str, files: &mut F) -> Result<
     ensures later { F.faults files.old ≤ F.faults files.new }
     ensures stays_sure { F.is_sure files.old → F.is_sure files.new }
     ensures form { IfOk result (λ form. Told (F.files files.old) (λ m. form_at word.now m ≡ Ok form)) }
-    ensures refusal { IfErr result (Refusal (form_at word.now)
-        (record { files = F.files files.old; before = F.faults files.old; now = F.faults files.new; failed = F.failed files.new })) }
+    ensures refusal { IfErr result (Refusal (form_at word.now) (reads_of F.files F.faults F.failed files.old files.new)) }
     ensures sure { F.is_sure files.old → IfErr result (λ s. (n : List ℕ) → s ≢ Status.InputFault n) }
 {
     let dag = match input(alloc, files, word, DAG_LIMIT) {
@@ -78,8 +78,7 @@ fn read_form<F: InputFiles>(alloc: Global, word: &str, files: &mut F) -> Result<
 pub fn accept<F: InputFiles>(alloc: Global, word: &str, files: &mut F) -> Result<Job, Status>
     ensures same { F.files files.new ≡ F.files files.old }
     ensures job { IfOk result (λ job. Told (F.files files.old) (λ m. job_at word.now m ≡ Ok job)) }
-    ensures refusal { IfErr result (Refusal (job_at word.now)
-        (record { files = F.files files.old; before = F.faults files.old; now = F.faults files.new; failed = F.failed files.new })) }
+    ensures refusal { IfErr result (Refusal (job_at word.now) (reads_of F.files F.faults F.failed files.old files.new)) }
     ensures sure { F.is_sure files.old → IfErr result (λ s. (n : List ℕ) → s ≢ Status.InputFault n) }
 {
     let form = match read_form(alloc, word, files) {

@@ -1,6 +1,7 @@
 // The input files of a run.
 ghost use Rattle.std.specs.Prelude.{◌≡◌, ◌≤◌, ◌≢◌, ◌⊎◌, ℕ, List, IfOk, IfErr};
 ghost use Rattle.tez_ports.specs.Content.{Told};
+ghost use Rattle.tez_am.specs.Call.{reads_of};
 ghost use Rattle.tez_am.specs.Accept.{content};
 ghost use Rattle.tez_am.specs.Cause.{Refusal};
 
@@ -20,8 +21,7 @@ pub fn input<F: InputFiles>(
     ensures later { F.faults files.old ≤ F.faults files.new }
     ensures stays_sure { F.is_sure files.old → F.is_sure files.new }
     ensures bytes { IfOk result (λ v. Told (F.files files.old) (λ m. content name.now limit m ≡ Ok v.items)) }
-    ensures refusal { IfErr result (Refusal (content name.now limit)
-        (record { files = F.files files.old; before = F.faults files.old; now = F.faults files.new; failed = F.failed files.new })) }
+    ensures refusal { IfErr result (Refusal (content name.now limit) (reads_of F.files F.faults F.failed files.old files.new)) }
     ensures sure { F.is_sure files.old → IfErr result (λ s. (n : List ℕ) → s ≢ Status.InputFault n) }
 {
     match files.read(alloc, name, limit) {

@@ -15,3 +15,6 @@ mod words;
 
 pub use status::{Device, Status, exit_code};
 pub use top::am_run;
+
+#[cfg(test)]
+mod tests;

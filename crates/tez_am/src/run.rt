@@ -1,5 +1,6 @@
 // A job, from its records to the publication of its sink. The store alone is touched.
 ghost use Rattle.std.specs.Prelude.{◌≡◌, ◌≢◌, ◌⊎◌, IfOk, IfErr, OnOk};
+ghost use Rattle.tez_am.specs.Call.{stored_of};
 ghost use Rattle.tez_am.specs.Meaning.{summary_of};
 ghost use Rattle.tez_am.specs.Publish.{OneMore, PublishCause, Publishes, RunCause};
 
@@ -11,10 +12,8 @@ use tez_ports::{OutputStore, StoreFault};
 
 /// Publishes the bytes under the name.
 fn publish<S: OutputStore>(store: &mut S, name: &str, bytes: &[u8]) -> Result<(), Status>
-    ensures published { OnOk result (OneMore name.now bytes.now
-        (record { old = S.store store.old; new = S.store store.new; before = S.faults store.old; now = S.faults store.new; stops_before = S.stops store.old; stops_now = S.stops store.new })) }
-    ensures cause { IfErr result (PublishCause name.now bytes.now
-        (record { old = S.store store.old; new = S.store store.new; before = S.faults store.old; now = S.faults store.new; stops_before = S.stops store.old; stops_now = S.stops store.new })) }
+    ensures published { OnOk result (OneMore name.now bytes.now (stored_of S.store S.faults S.stops store.old store.new)) }
+    ensures cause { IfErr result (PublishCause name.now bytes.now (stored_of S.store S.faults S.stops store.old store.new)) }
     ensures sure { S.is_sure store.old → IfErr result (λ s. s ≢ Status.DeviceFault Device.Store) }
 {
     match store.ready(name, bytes) {
@@ -31,10 +30,8 @@ fn publish<S: OutputStore>(store: &mut S, name: &str, bytes: &[u8]) -> Result<()
 /// Publishes the sink of the job, which was not published before.
 pub fn run<S: OutputStore>(alloc: Global, job: Job, store: &mut S) -> Result<Summary, Status>
     ensures summary { IfOk result (λ summary. summary ≡ summary_of job) }
-    ensures published { OnOk result (Publishes job
-        (record { old = S.store store.old; new = S.store store.new; before = S.faults store.old; now = S.faults store.new; stops_before = S.stops store.old; stops_now = S.stops store.new })) }
-    ensures cause { IfErr result (RunCause job
-        (record { old = S.store store.old; new = S.store store.new; before = S.faults store.old; now = S.faults store.new; stops_before = S.stops store.old; stops_now = S.stops store.new })) }
+    ensures published { OnOk result (Publishes job (stored_of S.store S.faults S.stops store.old store.new)) }
+    ensures cause { IfErr result (RunCause job (stored_of S.store S.faults S.stops store.old store.new)) }
     ensures sure { S.is_sure store.old → IfErr result (λ s. s ≢ Status.DeviceFault Device.Store) }
 {
     let Job { form, source } = job;

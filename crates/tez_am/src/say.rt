@@ -1,5 +1,6 @@
 // The writing of the one text of a call.
 ghost use Rattle.std.specs.Prelude.{◌≡◌, ◌≢◌};
+ghost use Rattle.tez_am.specs.Call.{writes_of};
 ghost use Rattle.tez_am.specs.Cause.{SaidNoMemory};
 ghost use Rattle.tez_am.specs.Say.{answer_of, text_of, Said};
 ghost use Rattle.tez_am.specs.Text.{status_text};
@@ -13,7 +14,7 @@ use tez_ports::{OutFailed, TextOut};
 /// Says that memory is short. That this fails changes nothing.
 fn say_no_memory<O: TextOut>(out: &mut O) -> Status
     ensures status { result ≡ Status.NoMemory }
-    ensures said { SaidNoMemory (record { old = O.written out.old; new = O.written out.new; before = O.faults out.old; now = O.faults out.new }) }
+    ensures said { SaidNoMemory (writes_of O.written O.faults out.old out.new) }
 {
     let _ = out.write(b"NO MEMORY\n");
     Status::NoMemory
@@ -22,7 +23,7 @@ fn say_no_memory<O: TextOut>(out: &mut O) -> Status
 /// Writes the text, and answers the status unless that fails.
 fn say_text<O: TextOut>(out: &mut O, text: &str, status: Status) -> Status
     requires { status ≢ Status.NoMemory }
-    ensures said { Said status text.now (record { old = O.written out.old; new = O.written out.new; before = O.faults out.old; now = O.faults out.new }) result }
+    ensures said { Said status text.now (writes_of O.written O.faults out.old out.new) result }
     ensures sure { O.is_sure out.old → status ≢ Status.OutFault → result ≢ Status.OutFault }
 {
     match out.write(text.as_bytes()) {
@@ -34,7 +35,7 @@ fn say_text<O: TextOut>(out: &mut O, text: &str, status: Status) -> Status
 
 /// Says why a run has not published its sink.
 fn say_refusal<O: TextOut>(alloc: Global, out: &mut O, status: Status) -> Status
-    ensures said { Said status (status_text status) (record { old = O.written out.old; new = O.written out.new; before = O.faults out.old; now = O.faults out.new }) result }
+    ensures said { Said status (status_text status) (writes_of O.written O.faults out.old out.new) result }
     ensures no_memory { status ≡ Status.NoMemory → result ≡ Status.NoMemory }
     ensures sure { O.is_sure out.old → status ≢ Status.OutFault → result ≢ Status.OutFault }
 {
@@ -49,7 +50,7 @@ fn say_refusal<O: TextOut>(alloc: Global, out: &mut O, status: Status) -> Status
 
 /// Says how a run ended, and answers with its status unless that fails.
 pub fn say<O: TextOut>(alloc: Global, out: &mut O, ended: Result<Summary, Status>) -> Status
-    ensures said { Said (answer_of ended) (text_of ended) (record { old = O.written out.old; new = O.written out.new; before = O.faults out.old; now = O.faults out.new }) result }
+    ensures said { Said (answer_of ended) (text_of ended) (writes_of O.written O.faults out.old out.new) result }
     ensures sure { O.is_sure out.old → answer_of ended ≢ Status.OutFault → result ≢ Status.OutFault }
 {
     match ended {

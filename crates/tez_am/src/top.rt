@@ -1,6 +1,7 @@
 // The top call.
 ghost use Rattle.std.specs.Prelude.{◌≡◌, ◌≢◌, ℕ, List, None, map, string_bytes};
 ghost use Rattle.tez_ports.specs.Content.{Told};
+ghost use Rattle.tez_am.specs.Call.{reads_of, stored_of, writes_of};
 ghost use Rattle.tez_am.specs.Cause.{Cause, Leaves};
 ghost use Rattle.tez_am.specs.Rows.{IsAnswer, KeepsRows};
 ghost use Rattle.tez_am.specs.Words.{dag_word};
@@ -30,18 +31,18 @@ pub fn am_run<F: InputFiles, S: OutputStore, D: JournalDisk, O: TextOut, G: Gate
 ) -> Status
     // Each answer has its cause.
     ensures cause { Cause (record {
-        words = map string_bytes words.now;
-        reads = record { files = F.files files.old; before = F.faults files.old; now = F.faults files.new; failed = F.failed files.new };
-        store = record { old = S.store store.old; new = S.store store.new; before = S.faults store.old; now = S.faults store.new; stops_before = S.stops store.old; stops_now = S.stops store.new };
-        out = record { old = O.written out.old; new = O.written out.new; before = O.faults out.old; now = O.faults out.new };
+      words = map string_bytes words.now;
+      reads = reads_of F.files F.faults F.failed files.old files.new;
+      store = stored_of S.store S.faults S.stops store.old store.new;
+      out = writes_of O.written O.faults out.old out.new;
     }) result }
     // Succeeded means that the sink was published exactly once, with exactly the kept records in byte
     // order, and that the text says so. Each other answer says what it left.
     ensures headline { Leaves (record {
-        words = map string_bytes words.now;
-        reads = record { files = F.files files.old; before = F.faults files.old; now = F.faults files.new; failed = F.failed files.new };
-        store = record { old = S.store store.old; new = S.store store.new; before = S.faults store.old; now = S.faults store.new; stops_before = S.stops store.old; stops_now = S.stops store.new };
-        out = record { old = O.written out.old; new = O.written out.new; before = O.faults out.old; now = O.faults out.new };
+      words = map string_bytes words.now;
+      reads = reads_of F.files F.faults F.failed files.old files.new;
+      store = stored_of S.store S.faults S.stops store.old store.new;
+      out = writes_of O.written O.faults out.old out.new;
     }) result }
     // Each answer comes where it is due, unless a device fails or memory is short.
     ensures usage { dag_word (map string_bytes words.now) ≡ None → IsAnswer Status.Usage result }
