@@ -3,7 +3,7 @@
 --     count-sort            a sort keeps each count
 --     same_bag              lists with the same counts are one bag
 --     sum_by-sort           a sum over a bag is the sum over any list of its records
-use Rattle.std.proofs.Common.{◌≡◌, ℕ, ◌+◌, ◌<◌, Bool, true, false, cond, List, [], ◌∷◌, refl, sym, ap, ◌∙◌, subst, arith, sum_by, count_by, is_le, is_lt, is_gt, Less, Equal, Greater, Ordering, bytes_eq, IsPermutation, IsSorted, suc, slice_index_or}
+use Rattle.std.proofs.Common.{◌≡◌, ℕ, ◌+◌, ◌<◌, Bool, true, false, cond, List, [], ◌∷◌, refl, sym, ap, ◌∙◌, subst, arith, sum_by, count_by, is_le, is_gt, Less, Equal, Greater, Ordering, bytes_eq, IsPermutation, IsSorted}
 use Rattle.std.specs.Ordering.{ordering_reverse}
 use Rattle.std.specs.Cmp.{IsTotalOrder, upto}
 use Rattle.std.specs.Cmp.Lexicographic.{nat_list_cmp_total, bytes_decides}

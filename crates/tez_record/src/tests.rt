@@ -1,14 +1,13 @@
-use crate::{
-    bag_sort, bag_text, contains, field, is_record, key, lines, lines_of, number, number_of, push_key,
-    Record, Records,
-};
-
 ghost use Rattle.std.specs.Prelude.{◌≡◌, IfOk, int_lt, false};
 ghost use Rattle.std.specs.List.{filter};
 ghost use Rattle.std.specs.Option.{option_map_or};
 ghost use Rattle.tez_record.specs.Field.{field, number};
 ghost use Rattle.tez_record.specs.Find.{has_part};
 
+use crate::{
+    Record, Records, bag_sort, bag_text, contains, field, is_record, key, lines, lines_of, number,
+    number_of, push_key,
+};
 use std::alloc::{AllocError, Global};
 
 // A caller's filters, with nothing to prove beside their contracts.
@@ -129,7 +128,10 @@ fn bags_are_in_byte_order(rt: HostRuntime) -> Result<(), AllocError> {
         (b"b\na\tz\na\nb", b"a\na\tz\nb\nb\n"),
         (b"", b""),
         (b"x\n\nx\r\n", b"\nx\nx\r\n"),
-        (b"0123456789abcdefz\n0123456789abcdefy\n0123456789abcdef\n", b"0123456789abcdef\n0123456789abcdefy\n0123456789abcdefz\n"),
+        (
+            b"0123456789abcdefz\n0123456789abcdefy\n0123456789abcdef\n",
+            b"0123456789abcdef\n0123456789abcdefy\n0123456789abcdefz\n",
+        ),
         (b"\xff\n\x7f\n\x00\n", b"\x00\n\x7f\n\xff\n"),
     ];
     for (bytes, text) in cases {
@@ -150,9 +152,18 @@ fn records_are_added_and_kept(rt: HostRuntime) -> Result<(), AllocError> {
     rs.push_joined(b"k\t1", b"k\ta")?;
     let mut more = Records::new(rt.alloc());
     more.append(&rs)?;
-    assert_eq!(rt; more.text(), b"ab\t7\nc\tx\nb\t5\n\nk\t-3\nk\t1\tk\ta\n".as_slice());
-    assert_eq!(rt; with_part(rt.alloc(), &rs, 0, b"b")?.text(), b"ab\t7\nb\t5\n".as_slice());
-    assert_eq!(rt; below(rt.alloc(), &rs, 1, 7)?.text(), b"b\t5\nk\t-3\nk\t1\tk\ta\n".as_slice());
+    assert_eq!(rt;
+        more.text(),
+        b"ab\t7\nc\tx\nb\t5\n\nk\t-3\nk\t1\tk\ta\n".as_slice()
+    );
+    assert_eq!(rt;
+        with_part(rt.alloc(), &rs, 0, b"b")?.text(),
+        b"ab\t7\nb\t5\n".as_slice()
+    );
+    assert_eq!(rt;
+        below(rt.alloc(), &rs, 1, 7)?.text(),
+        b"b\t5\nk\t-3\nk\t1\tk\ta\n".as_slice()
+    );
     assert_eq!(rt; rs.sorted(rt.alloc())?.iter().next(), Some(&b""[..]));
     Ok(())
 }

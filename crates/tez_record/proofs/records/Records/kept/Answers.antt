@@ -1,7 +1,7 @@
 use Rattle.std.proofs.Common.{◌≡◌, ◌∙◌, sym, refl}
 use Rattle.tez_record.specs.Line.{lines}
 use Rattle.tez_record.proofs.BlockLemmas.{first_is_record}
-use Rattle.tez_record.proofs.TestLemmas.{kept_one, passed_over}
+use Rattle.tez_record.proofs.LoopLemmas.{kept_one, passed_over}
 use Rattle.tez_record.proofs.records.Records.kept.Goals as goal
 
 pub push-requires : goal.push-requires
