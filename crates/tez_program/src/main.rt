@@ -3,12 +3,12 @@
 #![tactic(auto)]
 
 use std::alloc::Global;
-use std::env;
+use std::env::{self, Env};
 use std::io::{self, ErrorKind};
 use std::process::ExitCode;
-use std::rt::Files;
 use tez_am::{Status, am_run, exit_code};
 use tez_events::Trace;
+use tez_ports::TextOut;
 use tez_ports_real::{FolderFiles, FolderStore, NoDisk, QuietGate, StdOut};
 
 /// The arguments. Where one is not UTF-8 there are none, so that the command line is a faulty one.
@@ -28,14 +28,14 @@ fn words<R: Env + Alloc<A = Global>>(alloc: Global, rt: &R) -> io::Result<Vec<St
 
 fn main(rt: HostRuntime) -> ExitCode {
     let alloc = rt.alloc();
+    let mut out = StdOut::new(&rt);
     let Ok(words) = words(alloc, &rt) else {
-        let _ = io::writer(&rt).write_all(b"NO MEMORY\n");
+        let _ = out.write(b"NO MEMORY\n");
         return ExitCode::from(exit_code(&Status::NoMemory));
     };
     let mut files = FolderFiles::new(alloc, &rt);
     let mut store = FolderStore::new(alloc, &rt);
     let mut disk = NoDisk::new();
-    let mut out = StdOut::new(&rt);
     let status = am_run(
         alloc,
         &words,
