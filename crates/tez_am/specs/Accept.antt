@@ -3,7 +3,7 @@
 --     form_at word files         what the DAG file of this name says
 --     job_at word files          that, and the bytes of its source
 --     accepted words files       the job of the words, or the refusal that is due
-use Rattle.std.specs.Prelude.{ℕ, List, length, nat_le, if◌then◌else◌, Option, Some, None, Result, Ok, Err}
+use Rattle.std.specs.Prelude.{ℕ, List, length, nat_le, if◌then◌else◌, Result, Ok, Err}
 use Rattle.std.specs.Option.{ok_or}
 use Rattle.tez_ports.specs.Content.{Named, bytes_of}
 use Rattle.tez_am.specs.Words.{dag_word}

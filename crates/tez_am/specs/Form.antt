@@ -3,11 +3,11 @@
 --      "steps":[{"op":"filter","field":COLUMN,"test":"contains","value":TEXT}],"sink":SINK}]}
 -- with these keys and no others, in any order.
 --     form_of bytes      what such a file says, and None of any other bytes
-use Rattle.std.specs.Prelude.{ℕ, ◌&&◌, ◌||◌, ◌==◌, List, [], ◌∷◌, length, codes, Bool, true, false, not, nat_lt, nat_le, bytes_eq, if◌then◌else◌, Option, Some, None, is_some, option_and_then}
+use Rattle.std.specs.Prelude.{ℕ, ◌&&◌, ◌||◌, ◌==◌, List, [], ◌∷◌, length, codes, Bool, false, not, nat_lt, nat_le, bytes_eq, if◌then◌else◌, Option, Some, None, is_some, option_and_then}
 use Rattle.std.specs.List.{list_all, list_any}
 use Rattle.std.specs.Option.{option_eq, option_zip, option_map_or}
 use Rattle.std.specs.Str.{is_utf8}
-use Rattle.serde_json.specs.Data.{Data, null, boolean, number, string, array, object, Items, no_items, item, Members}
+use Rattle.serde_json.specs.Data.{Data, null, boolean, number, string, array, object, Items, no_items, item}
 use Rattle.serde_json.specs.Events.{members_len}
 use Rattle.serde_json.specs.Find.{get, as_str, as_number, as_u64}
 use Rattle.serde_json.specs.Read.{read}

@@ -2,14 +2,14 @@
 --     publications store                    the names and bytes that were published, in their order
 --     IsPublishedOnce job publications      the job's sink is there exactly once, with exactly its text
 --     Publishes job old new                 it was not there before, is there once now, and nothing else was published
-use Rattle.std.specs.Prelude.{◌≡◌, ◌⊎◌, ℕ, List, [], ◌∷◌, ◌++◌, filter, bytes_eq, Option, option_map, IsSome, Result}
+use Rattle.std.specs.Prelude.{◌≡◌, ◌⊎◌, ℕ, List, [], ◌∷◌, ◌++◌, filter, bytes_eq, Option, option_map, IsSome}
 use Rattle.tez_ports.specs.Content.{Named, Store, Told, bytes_of}
 use Rattle.tez_am.specs.Call.{Stored, StoreFailed}
 use Rattle.tez_am.specs.Meaning.{sink_text}
 use Rattle.tez_am.specs.declared.job.Job.{Job}
 use Rattle.tez_am.specs.declared.status.Device.TheVariants as device
 use Rattle.tez_am.specs.declared.status.Status.{Status}
-use Rattle.tez_am.specs.declared.status.Status.TheVariants.{Succeeded, Usage, InputMissing, InputFault, OtherForm, SinkExists, DeviceFault, OutFault, NoMemory}
+use Rattle.tez_am.specs.declared.status.Status.TheVariants.{SinkExists, DeviceFault, NoMemory}
 
 abbrev pub publications : Option Store → Option Named
 publications store = option_map (λ s. s.publications) store

@@ -1,7 +1,6 @@
 -- What a call writes, and how the program ends.
 use Rattle.std.specs.Prelude.{ℕ, List, [], ◌++◌, codes, decimal}
 use Rattle.tez_am.specs.declared.job.Summary.{Summary}
-use Rattle.tez_am.specs.declared.status.Device.{Device}
 use Rattle.tez_am.specs.declared.status.Device.TheVariants.{Disk, Store}
 use Rattle.tez_am.specs.declared.status.Status.{Status}
 use Rattle.tez_am.specs.declared.status.Status.TheVariants.{Succeeded, Usage, InputMissing, InputFault, OtherForm, SinkExists, DeviceFault, OutFault, NoMemory}
