@@ -19,6 +19,8 @@ fn reads_files_of_the_folder(rt: HostRuntime) -> Result<(), Fail> {
         ("in/a.txt", 0, Err(ReadFault::TooLarge)),
         ("in/b.txt", 4, Err(ReadFault::Missing)),
         ("in", 4, Err(ReadFault::Failed)),
+        // it has no end, so it is not read whole
+        ("/dev/zero", 4, Err(ReadFault::TooLarge)),
     ];
     for want in wants.iter() {
         match files.read(alloc, want.0, want.1) {
