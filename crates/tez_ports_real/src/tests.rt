@@ -101,7 +101,10 @@ fn stages_bytes_in_the_folder(rt: HostRuntime) -> Result<(), Fail> {
     );
     assert_eq!(rt; later.publish("next"), Err(DeviceStop::Failed));
     for entry in fs::read_dir(&rt, "tez.out")? {
-        assert_eq!(rt; entry?.file_name(), "kept");
+        assert!(rt;
+            !entry?.file_name().starts_with('.'),
+            "a file of its own is left"
+        );
     }
     assert_eq!(rt; later.is_published("kept"), Ok(true));
     Ok(())
