@@ -3,3 +3,4 @@ pub mod Ending
 pub mod Publishing
 pub mod RowLemmas
 pub mod Values
+mod WorkedRows
