@@ -355,10 +355,8 @@ mod tests {
         task.restore(1, Some(kept));
         assert_eq!(rt; task.take(TaskEvent::Queue), TaskTook::Ignored);
         assert_eq!(rt; task.winner(), Some(kept));
-        assert_eq!(rt;
-            task.take(TaskEvent::Lose(kept)),
-            TaskTook::Again(task.next())
-        );
+        let next = task.next();
+        assert_eq!(rt; task.take(TaskEvent::Lose(kept)), TaskTook::Again(next));
         assert_eq!(rt; task.live(), Some(attempt(0)));
         assert_eq!(rt; task.state(attempt(0)), Some(AttemptState::Queued));
     }

@@ -1,0 +1,2 @@
+pub mod VertexTasks
+pub mod Table
