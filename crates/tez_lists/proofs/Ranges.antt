@@ -2,7 +2,8 @@
 --     one_in_range        of the numbers below n, exactly one is v
 --     all_below           each number in the range is below its end
 --     at_below            what holds of each number in the range holds of one below its end
-use Rattle.std.proofs.Common.{◌≡◌, ℕ, zero, suc, ◌+◌, ◌<◌, ◌≤◌, ◌==◌, cond, refl, sym, ap, ◌∙◌, subst, arith, count_by, eqb-true, ne_eqb}
+--     range_more          the range that is one longer has one number more, at its end
+use Rattle.std.proofs.Common.{List, [], ◌∷◌, ◌++◌, add-zero, add-one, ◌≡◌, ℕ, zero, suc, ◌+◌, ◌<◌, ◌≤◌, ◌==◌, cond, refl, sym, ap, ◌∙◌, subst, arith, count_by, eqb-true, ne_eqb}
 use Rattle.std.specs.List.{range_with_len, AllByRecursion}
 use Rattle.std.proofs.lemmas.Bool.{eqb-false}
 use Rattle.std.proofs.lemmas.List.Sums.{sum_by-cons}
@@ -43,3 +44,10 @@ at_from v a (suc n) P all low high = cases (v == a)
 
 pub at_below : (v n : ℕ) (P : ℕ → Type 0) → AllByRecursion P (range_with_len 0 n) → v < n → P v
 at_below v n P all h = at_from v 0 n P all (omega arith) (omega arith)
+
+range_step : (a n : ℕ) → range_with_len a (suc n) ≡ range_with_len a n ++ (a + n) ∷ []
+range_step a zero = ap (λ x. x ∷ []) (sym (add-zero a))
+range_step a (suc n) = let last : a + 1 + n ≡ a + suc n = omega arith in ap (λ (rest : List ℕ). a ∷ rest) (range_step (a + 1) n ∙ ap (λ x. range_with_len (a + 1) n ++ x ∷ []) last)
+
+pub range_more : (a n : ℕ) → range_with_len a (n + 1) ≡ range_with_len a n ++ (a + n) ∷ []
+range_more a n = ap (range_with_len a) (add-one n) ∙ range_step a n

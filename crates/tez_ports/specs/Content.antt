@@ -1,6 +1,7 @@
 -- What devices hold, where they tell it.
-use Rattle.std.specs.Prelude.{◌≡◌, ◌⊎◌, ◌≤◌, ℕ, List, [], ◌∷◌, ◌++◌, length, Bool, ◌&&◌, ◌==◌, bytes_eq, if◌then◌else◌, Option, Some, None, option_map, is_some, Result, OnOk, OnErr}
+use Rattle.std.specs.Prelude.{◌≡◌, ◌⊎◌, ℕ, List, [], ◌∷◌, ◌++◌, filter, not, bytes_eq, if◌then◌else◌, Option, Some, None, option_map}
 use Rattle.tez_ids.specs.declared.AttemptId.{AttemptId}
+use Rattle.tez_ids.specs.Same.{same_attempt}
 
 -- names, each with its bytes; the first of a name counts
 abbrev pub Named : Type 0
@@ -12,12 +13,7 @@ bytes_of name (entry ∷ rest) = if bytes_eq entry.0 name then Some entry.1 else
 
 -- the entries of other names
 abbrev pub without : List ℕ → Named → Named
-without name [] = []
-without name (entry ∷ rest) = if bytes_eq entry.0 name then without name rest else entry ∷ without name rest
-
--- one attempt is the other
-abbrev pub same_attempt : AttemptId → AttemptId → Bool
-same_attempt a b = (a.epoch.0 == b.epoch.0) && (a.task.vertex.0 == b.task.vertex.0) && (a.task.index == b.task.index) && (a.number == b.number)
+without name entries = filter (λ entry. not (bytes_eq entry.0 name)) entries
 
 -- attempts, each with its bytes; the first of an attempt counts
 abbrev pub Staged : Type 0
@@ -53,8 +49,7 @@ staged_at attempt (entry ∷ rest) = if same_attempt entry.0 attempt then Some e
 
 -- the entries of other attempts
 abbrev pub without_attempt : AttemptId → Staged → Staged
-without_attempt attempt [] = []
-without_attempt attempt (entry ∷ rest) = if same_attempt entry.0 attempt then without_attempt attempt rest else entry ∷ without_attempt attempt rest
+without_attempt attempt entries = filter (λ entry. not (same_attempt entry.0 attempt)) entries
 
 -- the attempt's bytes are put aside, in place of any before, and the call is noted
 abbrev pub stages : AttemptId → List ℕ → Store → Store

@@ -5,6 +5,7 @@ ghost use Rattle.tez_ports.specs.Content.{Named, Told, bytes_of};
 use crate::ReadFault;
 use std::alloc::Global;
 
+/// Files that are read whole, by name.
 pub trait InputFiles {
     /// Names and their bytes, where told.
     ghost files: { Self → Option Named };
@@ -12,13 +13,14 @@ pub trait InputFiles {
     /// How often a read has failed.
     ghost faults: { Self → ℕ };
 
-    /// The name of the last read that answered Failed.
+    /// The name of the last read that answered Failed, empty before the first.
     ghost failed: { Self → List ℕ };
 
     /// It tells what it holds, and never answers Failed.
     ghost is_sure: { Self → Type 0 };
 
-    /// The whole content of a file, where it is at most `limit` bytes long.
+    /// The whole content of a file, where it is at most `limit` bytes long. The time and the memory
+    /// grow with the content up to the limit.
     fn read(&mut self, alloc: Global, name: &str, limit: u64) -> Result<Vec<u8>, ReadFault>
         ensures same { files self.new ≡ files self.old }
         ensures whole { IfOk result (λ v. Told (files self.old) (λ m. bytes_of name.now m ≡ Some v.items)) }

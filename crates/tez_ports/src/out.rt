@@ -3,6 +3,7 @@ ghost use Rattle.tez_ports.specs.Causes.{Rose, OutHasCause};
 
 use crate::OutFailed;
 
+/// A text that is only added to, as standard output.
 pub trait TextOut {
     /// The bytes so far, where told.
     ghost written: { Self → Option (List ℕ) };
@@ -13,7 +14,7 @@ pub trait TextOut {
     /// It tells what was written, and never answers Failed.
     ghost is_sure: { Self → Type 0 };
 
-    /// Adds all the bytes.
+    /// Adds all the bytes. After Failed a first part of them may stand.
     fn write(&mut self, bytes: &[u8]) -> Result<(), OutFailed>
         ensures ok { OnOk result (written self.new ≡ option_map (λ b. b ++ bytes.now) (written self.old)) }
         ensures part { IsErrOf result OutFailed.Failed

@@ -3,7 +3,7 @@
 --     count-sort            a sort keeps each count
 --     same_bag              lists with the same counts are one bag
 --     sum_by-sort           a sum over a bag is the sum over any list of its records
-use Rattle.std.proofs.Common.{◌≡◌, ℕ, ◌+◌, ◌<◌, Bool, true, false, cond, List, [], ◌∷◌, refl, sym, ap, ◌∙◌, subst, arith, sum_by, count_by, is_le, is_lt, is_gt, Less, Equal, Greater, Ordering, bytes_eq, IsPermutation, IsSorted, suc, slice_index_or}
+use Rattle.std.proofs.Common.{◌≡◌, ℕ, ◌+◌, ◌<◌, Bool, true, false, cond, List, [], ◌∷◌, refl, sym, ap, ◌∙◌, subst, arith, sum_by, count_by, is_le, is_gt, Less, Equal, Greater, Ordering, bytes_eq, IsPermutation, IsSorted}
 use Rattle.std.specs.Ordering.{ordering_reverse}
 use Rattle.std.specs.Cmp.{IsTotalOrder, upto}
 use Rattle.std.specs.Cmp.Lexicographic.{nat_list_cmp_total, bytes_decides}
@@ -11,6 +11,8 @@ use Rattle.std.specs.FinMap.{slice_cmp-IsAntisymmetric, nat_cmp-IsAntisymmetric}
 use Rattle.std.proofs.lemmas.List.Sums.{sum_by-cons}
 use Rattle.std.proofs.lemmas.List.Sorted.{sum_by-IsPermutation}
 use Rattle.tez_lists.proofs.Cases.{cases, both}
+use Rattle.tez_lists.proofs.Sorted.{InOrder, IsUpTo, InOrder-from, IsSorted-from, up_to-all, same_in_order}
+use Rattle.std.specs.List.{AllByRecursion}
 use Rattle.tez_record.specs.Bag.{compare, place, sort}
 
 -- r comes before s in byte order, or is s
@@ -158,22 +160,29 @@ sort-sort xs = same_bag (sort xs) xs (λ r. sum_by-sort (λ s. cond (bytes_eq r 
 pub sort-IsPermutation : (xs ys : List (List ℕ)) → IsPermutation xs ys → sort ys ≡ sort xs
 sort-IsPermutation xs ys h = same_bag ys xs (λ r. sum_by-IsPermutation (λ s. cond (bytes_eq r s) 1 0) xs ys h)
 
-not_below : (r s : List ℕ) → is_lt (compare s r) ≡ false → at_most r s ≡ true
-not_below r s h = cases_le (compare s r) (compare r s) (order.antisymm r s) h
-  where
-    cases_le : (o p : Ordering) → p ≡ ordering_reverse o → is_lt o ≡ false → is_le p ≡ true
-    cases_le Less p e h = both refl h
-    cases_le Equal p e h = ap is_le e
-    cases_le Greater p e h = ap is_le e
+all_place : (P : List ℕ → Type 0) (r : List ℕ) (bag : List (List ℕ)) → P r → AllByRecursion P bag → AllByRecursion P (place r bag)
+all_place P r [] h all = (h, tt)
+all_place P r (s ∷ bag) h all = cases (at_most r s) (λ e. rw e (h, all)) (λ e. rw e (all.0, all_place P r bag h all.1))
 
-pub sorted_is_bag : (ys : List (List ℕ)) → IsSorted compare ys → sort ys ≡ ys
-sorted_is_bag [] h = refl
-sorted_is_bag (r ∷ []) h = refl
-sorted_is_bag (r ∷ s ∷ ys) h =
-    ap (place r) (sorted_is_bag (s ∷ ys) (λ k d low high.
-    let next : suc k + 1 ≡ suc (k + 1) = omega arith in
-    subst (λ n. is_lt (compare (slice_index_or (r ∷ s ∷ ys) n d) (slice_index_or (s ∷ ys) k d)) ≡ false) next (h (suc k) d (omega arith) (omega arith))))
-    ∙ ap (λ b. cond b (r ∷ s ∷ ys) (s ∷ place r ys)) (not_below r s (h 0 r (omega arith) (omega arith)))
+place_in_order : (r : List ℕ) (bag : List (List ℕ)) → InOrder compare bag → InOrder compare (place r bag)
+place_in_order r [] h = (tt, tt)
+place_in_order r (s ∷ bag) h = cases (at_most r s)
+    (λ e. let first = le_gt (compare r s) e in rw e ((first, up_to-all compare order r s bag first h.0), h))
+    (λ e. rw e (all_place (IsUpTo compare s) r bag (le_gt (compare s r) (at_most-total r s e)) h.0, place_in_order r bag h.1))
 
+-- a bag is in byte order
+pub sort_in_order : (rs : List (List ℕ)) → InOrder compare (sort rs)
+sort_in_order [] = tt
+sort_in_order (r ∷ rs) = place_in_order r (sort rs) (sort_in_order rs)
+
+pub sort_sorted : (rs : List (List ℕ)) → IsSorted compare (sort rs)
+sort_sorted rs = IsSorted-from compare order (sort rs) (sort_in_order rs)
+
+-- what a sort of the code gives is the bag
 pub bag_from_sort : (xs ys : List (List ℕ)) → IsPermutation xs ys → IsSorted compare ys → ys ≡ sort xs
-bag_from_sort xs ys moved sorted = sym (sorted_is_bag ys sorted) ∙ sort-IsPermutation xs ys moved
+bag_from_sort xs ys moved sorted =
+    same_in_order compare order (slice_cmp-IsAntisymmetric nat_cmp-IsAntisymmetric) ys (sort xs) (InOrder-from compare order ys sorted) (sort_in_order xs)
+    (λ f. sum_by-IsPermutation f xs ys moved ∙ sym (sum_by-sort f xs))
+
+pub count-sort : (r : List ℕ) (rs : List (List ℕ)) → count r (sort rs) ≡ count r rs
+count-sort r rs = sum_by-sort (λ s. cond (bytes_eq r s) 1 0) rs

@@ -2,14 +2,13 @@
 use Rattle.std.proofs.Common.{◌≡◌, is_le, ℕ, ◌+◌, ◌-◌, ◌<◌, ◌≤◌, ◌^◌, length-append, ◌==◌, Bool, true, false, cond, List, [], ◌∷◌, ◌++◌, length, take, drop, refl, sym, ap, ◌∙◌, subst, arith, rules, zero, if◌then◌else◌, true≢false, append_assoc, slice_index_or, suc}
 use Rattle.std.specs.List.{onto_first, list_any, AllByRecursion}
 use Rattle.std.proofs.lemmas.Bool.{or_from, false_from_ne_true}
-use Rattle.std.proofs.lemmas.List.{take-append-drop, drop_more, get_or-take, get_or_default, length-take-le}
-use Rattle.std.proofs.lemmas.List.Splits.{slice_split_none, slice_split_at}
 use Rattle.tez_record.specs.Line.{without_empty_last, lines, IsRecord}
 use Rattle.tez_record.specs.Bag.{text, sort, place, compare}
 use Rattle.tez_lists.proofs.Cases.{cases}
 use Rattle.tez_record.proofs.LineLemmas.{pieces, some_pieces, keeps_first, lines-text}
 use Rattle.memchr.specs.Find.{is_byte, Nowhere, Passes}
 use Rattle.tez_record.specs.Block.{IsText}
+use Rattle.tez_record.proofs.SplitLemmas.{split_none, split_some}
 
 abbrev AllRecords : List (List ℕ) → Type 0
 AllRecords rs = AllByRecursion IsRecord rs
@@ -146,24 +145,14 @@ one_line : (ps : List (List ℕ)) (r : List ℕ) → 0 < length r → without_em
 one_line ps [] h = absurd (omega arith)
 one_line ps (b ∷ r) h = refl
 
-no_feed : (bytes : List ℕ) (n k d : ℕ) → k < n → k < length bytes → Nowhere (Passes (is_byte 10) bytes) 0 n → (slice_index_or bytes k d == 10) ≡ false
-no_feed bytes n k d low short nowhere = rw (get_or_default bytes k d 0 short) (false_from_ne_true (slice_index_or bytes k 0 == 10) (nowhere k (omega arith) low))
-
 -- bytes without a line feed are one line
 pub lines-none : (bytes : List ℕ) → 0 < length bytes → Nowhere (Passes (is_byte 10) bytes) 0 (length bytes) → lines bytes ≡ bytes ∷ []
-lines-none bytes some nowhere =
-    ap without_empty_last (slice_split_none (λ b. b == 10) bytes (λ k d low. no_feed bytes (length bytes) k d low low nowhere))
-    ∙ one_line [] bytes some
+lines-none bytes some nowhere = ap without_empty_last (split_none 10 bytes nowhere) ∙ one_line [] bytes some
 
 -- the first line ends before the first line feed
 pub lines-some : (bytes : List ℕ) (at : ℕ) → at < length bytes → Nowhere (Passes (is_byte 10) bytes) 0 at → Passes (is_byte 10) bytes at → lines bytes ≡ take at bytes ∷ lines (drop (at + 1) bytes)
 lines-some bytes at low nowhere hit =
-    let size : length (take at bytes) ≡ at = length-take-le at bytes (omega arith) in
-    let before : (k d : ℕ) → k < length (take at bytes) → (slice_index_or (take at bytes) k d == 10) ≡ false =
-    λ k d short. rw (get_or-take at bytes k d (omega arith)) (no_feed bytes at k d (omega arith) (omega arith) nowhere) in
-    let cut : bytes ≡ take at bytes ++ slice_index_or bytes at 0 ∷ drop (at + 1) bytes = sym (take-append-drop at bytes) ∙ ap (λ xs. take at bytes ++ xs) (drop_more bytes at 0 low) in
-    ap lines cut
-    ∙ ap without_empty_last (slice_split_at (λ b. b == 10) (take at bytes) (slice_index_or bytes at 0) (drop (at + 1) bytes) (λ k d short. before k d short) hit)
+    ap without_empty_last (split_some 10 bytes at low nowhere hit)
     ∙ keeps_first (take at bytes) (pieces (drop (at + 1) bytes)) (some_pieces (drop (at + 1) bytes))
 
 all_placed : (r : List ℕ) (bag : List (List ℕ)) → IsRecord r → AllRecords bag → AllRecords (place r bag)

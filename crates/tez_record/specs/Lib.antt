@@ -3,3 +3,5 @@ pub mod Field
 pub mod Bag
 pub mod Block
 pub mod Front
+pub mod Find
+pub mod Test

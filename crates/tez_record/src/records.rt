@@ -1,11 +1,13 @@
 // Records in one block of text, each ended by a line feed.
-ghost use Rattle.std.specs.Prelude.{◌≡◌, ℕ, List, [], ◌∷◌, ◌++◌, if◌then◌else◌, is_ok, OnOk, IfOk, length};
-ghost use Rattle.std.specs.List.{AllByRecursion};
+ghost use Rattle.std.specs.Prelude.{◌≡◌, ◌↔◌, ℕ, List, [], ◌∷◌, ◌++◌, if◌then◌else◌, IsTrue, is_ok, OnOk, IfOk, length, Bool};
+ghost use Rattle.std.specs.List.{AllByRecursion, filter};
 ghost use Rattle.std.specs.Iterator.{YieldsFirstRef, item_count};
 ghost use Rattle.tez_record.specs.Line.{lines, IsRecord};
 ghost use Rattle.tez_record.specs.Bag.{sort, text};
+ghost use Rattle.tez_record.specs.Test.{IsTestOf};
+ghost use Rattle.tez_record.specs.Field.{key};
 
-use crate::block::{first_line, push_end, push_line};
+use crate::block::{first_line, push_end, push_fields_line, push_key_line, push_line};
 use crate::sort_key::SortKey;
 use std::alloc::{AllocError, Global};
 use std::marker::Model;
@@ -47,6 +49,23 @@ impl Records {
         push_line(&mut self.bytes, line)
     }
 
+    /// Adds the key of a record at the end, as `key` makes it, or nothing.
+    pub fn push_key(&mut self, r: &[u8], cols: &[u16]) -> Result<(), AllocError>
+        requires { IsRecord r.now }
+        ensures { self.new ≡ (if is_ok result then self.old ++ key cols.now r.now ∷ [] else self.old) }
+    {
+        push_key_line(&mut self.bytes, r, cols)
+    }
+
+    /// Adds a record at the end that is one record, a tab and another one, or nothing.
+    pub fn push_joined(&mut self, left: &[u8], right: &[u8]) -> Result<(), AllocError>
+        requires left { IsRecord left.now }
+        requires right { IsRecord right.now }
+        ensures { self.new ≡ (if is_ok result then self.old ++ (left.now ++ 9 ∷ right.now) ∷ [] else self.old) }
+    {
+        push_fields_line(&mut self.bytes, left, right)
+    }
+
     /// Adds all records of another list at the end, or none. Linear in the other list's text, on average.
     pub fn append(&mut self, other: &Records) -> Result<(), AllocError>
         ensures { self.new ≡ (if is_ok result then self.old ++ other.now else self.old) }
@@ -75,6 +94,12 @@ impl Records {
         self.bytes
     }
 
+    pub fn is_empty(&self) -> bool
+        ensures { IsTrue result ↔ (self.now ≡ []) }
+    {
+        self.bytes.is_empty()
+    }
+
     /// How many records there are. It looks at each byte of the text.
     pub fn len(&self) -> usize
         ensures { result ≡ length self.now }
@@ -98,6 +123,20 @@ impl Records {
         Ok(Records {
             bytes: Vec::from_slice(alloc, self.bytes.as_slice())?,
         })
+    }
+
+    /// The records that pass a test, in their order. Linear in the text, beside the calls of the test.
+    pub fn kept<F: Fn(&[u8]) -> bool>(&self, alloc: Global, test: F) -> Result<Records, AllocError>
+        requires { F.IsAlwaysCallable test }
+        ensures { (p : List ℕ → Bool) → IsTestOf F.Fn test p → IfOk result (λ rs. rs ≡ filter p self.now) }
+    {
+        let mut kept = Records::new(alloc);
+        for line in self.iter() {
+            if test(line) {
+                kept.push(line)?;
+            }
+        }
+        Ok(kept)
     }
 
     /// The same records in byte order. For n records it takes n log n comparisons, most of them of

@@ -8,8 +8,7 @@ use Rattle.std.proofs.lemmas.Bool.{and_from, and_left, and_right, cases_order, l
 use Rattle.std.specs.List.{range_with_len}
 use Rattle.std.proofs.Common.{count_by, ap}
 use Rattle.tez_lists.proofs.Ranges.{one_in_range}
-use Rattle.tez_lists.proofs.Sums.{sum_by-ext}
-use Rattle.tez_shrink.specs.Formulas.{tasks_of as tasks_for, first_of, end_of, in_range, IsInOneRange}
+use Rattle.tez_shrink.specs.Formulas.{tasks_of as tasks_for, IsInOneRange}
 
 -- x is in the range of task t exactly where t is its quotient
 pub range_is_quotient : (parts base x t : ℕ) → 0 < base → x < parts → leb (t * base) x && ltb x (min ((t + 1) * base) parts) ≡ (x / base == t)

@@ -1,0 +1,5 @@
+pub mod Contents
+pub mod Ending
+pub mod Publishing
+pub mod RowLemmas
+pub mod Values

@@ -1,0 +1,50 @@
+ghost use Rattle.std.specs.Prelude.{◌≡◌};
+ghost use Rattle.tez_am.specs.Text.{exit_of};
+
+use tez_ids::Name;
+
+/// A device that a call may fail at, beside its inputs and its text.
+#[derive(Clone, Copy, Debug, PartialEq, Eq)]
+pub enum Device {
+    Disk,
+    Store,
+}
+
+/// How a call ended.
+#[derive(Debug, Drop)]
+pub enum Status {
+    /// The sink is published, and the text says so.
+    Succeeded,
+    /// The words are no command.
+    Usage,
+    /// An input of this name is not there.
+    InputMissing(Name),
+    /// The input of this name could not be read.
+    InputFault(Name),
+    /// The DAG file is not of the form that can be run, or an input is too large.
+    OtherForm,
+    /// The sink of this name was published before.
+    SinkExists(Name),
+    /// A call of this device failed.
+    DeviceFault(Device),
+    /// The text could not be written. What is published stands.
+    OutFault,
+    NoMemory,
+}
+
+/// The exit code of the program.
+pub fn exit_code(status: &Status) -> u8
+    ensures { result ≡ exit_of status.now }
+{
+    match status {
+        Status::Succeeded => 0,
+        Status::Usage => 2,
+        Status::InputMissing(_) => 4,
+        Status::InputFault(_) => 6,
+        Status::SinkExists(_) => 7,
+        Status::DeviceFault(_) => 12,
+        Status::OutFault => 14,
+        Status::NoMemory => 15,
+        Status::OtherForm => 19,
+    }
+}

@@ -1,0 +1,433 @@
+// Whole calls over devices in memory.
+ghost use Rattle.std.specs.Prelude.{ℕ};
+
+use crate::{Device, Status, am_run, exit_code};
+use std::alloc::{AllocError, Global};
+use std::process::Abort;
+use std::test::Fail;
+use tez_events::Trace;
+use tez_ids::{Bytes, Name};
+use tez_ports::{DeviceStop, InputFiles, JournalDisk, OutputStore, TextOut};
+use tez_ports_mem::{MemFiles, MemOut, MemStore, OpenGate, SureFiles, SureOut, SureStore};
+
+const ONE: &str =
+    "{\"name\":\"one\",\"vertices\":[{\"name\":\"only\",\"tasks\":1,\"source\":\"in.txt\",\"head\":{\"op\":\"each\"},\"steps\":[{\"op\":\"filter\",\"field\":0,\"test\":\"contains\",\"value\":\"b\"}],\"sink\":\"kept\"}]}";
+
+const WC: &str =
+    "{\"name\":\"wc\",\"vertices\":[{\"name\":\"split\",\"tasks\":2,\"source\":\"in.txt\",\"head\":{\"op\":\"each\"},\"steps\":[{\"op\":\"tokenise\"}]},{\"name\":\"total\",\"tasks\":2,\"head\":{\"op\":\"sum\",\"value\":1},\"sink\":\"counts\"}],\"edges\":[{\"from\":\"split\",\"to\":\"total\",\"movement\":\"SCATTER_GATHER\",\"keys\":[0]}]}";
+
+const USAGE: &str =
+    "usage: tez run or resume DAG [--script FILE] [--trace], drill SEED LINES, check DAG, meaning DAG, audit DAG TRACE, generate SEED LINES\n";
+
+/// A disk that is never called.
+#[derive(Drop)]
+struct NoDisk {
+    spare: u64,
+    faults: u64,
+}
+
+impl JournalDisk for NoDisk {
+    ghost faults = { λ s. s.faults };
+
+    ghost stops = { λ _. 0 };
+
+    ghost spare = { λ s. s.spare };
+
+    fn size(&mut self) -> Result<u64, DeviceStop> {
+        self.faults = self.faults.saturating_add(1);
+        Err(DeviceStop::Failed)
+    }
+
+    fn read_at(&mut self, _start: u64, _into: &mut [u8]) -> Result<(), DeviceStop> {
+        self.faults = self.faults.saturating_add(1);
+        Err(DeviceStop::Failed)
+    }
+
+    fn reserve(&mut self, units: u64) -> Result<(), AllocError> {
+        self.spare = self.spare.max(units);
+        Ok(())
+    }
+
+    fn write_at(&mut self, _start: u64, _bytes: &[u8]) -> Result<(), DeviceStop> {
+        self.faults = self.faults.saturating_add(1);
+        Err(DeviceStop::Failed)
+    }
+
+    fn sync(&mut self) -> Result<(), DeviceStop> {
+        self.faults = self.faults.saturating_add(1);
+        Err(DeviceStop::Failed)
+    }
+
+    fn power_cut(&mut self) {}
+}
+
+fn entries(alloc: Global, dag: &[u8], source: Option<&[u8]>) -> Result<Vec<(Name, Bytes)>, Fail> {
+    let mut entries = Vec::new(alloc);
+    entries.push((
+        Name::copy_of(alloc, "one.json")?,
+        Bytes::new(dag.to_vec(alloc)?),
+    ))?;
+    if let Some(source) = source {
+        entries.push((
+            Name::copy_of(alloc, "in.txt")?,
+            Bytes::new(source.to_vec(alloc)?),
+        ))?;
+    }
+    Ok(entries)
+}
+
+fn call(
+    alloc: Global,
+    words: &[&str],
+    files: &mut impl InputFiles,
+    store: &mut impl OutputStore,
+    out: &mut impl TextOut,
+) -> Result<Status, Fail> {
+    let mut list = Vec::new(alloc);
+    for word in words {
+        list.push(String::from_str(alloc, word)?)?;
+    }
+    let mut disk = NoDisk {
+        spare: 0,
+        faults: 0,
+    };
+    Ok(am_run(
+        alloc,
+        &list,
+        files,
+        store,
+        &mut disk,
+        out,
+        &OpenGate {},
+        &mut Trace::new(),
+    ))
+}
+
+/// Which calls are to fail or to be stopped, each numbered from 1, or 0 for none.
+#[derive(Clone, Copy)]
+struct Faults {
+    read: u64,
+    store: u64,
+    stop: u64,
+    write: u64,
+}
+
+const NONE: Faults = Faults {
+    read: 0,
+    store: 0,
+    stop: 0,
+    write: 0,
+};
+
+/// A source that is not there, and a sink that is not published.
+const ABSENT: &str = "(absent)";
+
+#[derive(Clone, Copy)]
+struct Row<'t> {
+    words: &'t [&'t str],
+    dag: &'t str,
+    source: &'t str,
+    faults: Faults,
+    exit: u8,
+    text: &'t str,
+    sink: &'t str,
+}
+
+fn check(rt: &impl Abort, alloc: Global, row: &Row<'_>) -> Result<(), Fail> {
+    let source = if row.source == ABSENT {
+        None
+    } else {
+        Some(row.source.as_bytes())
+    };
+    let mut files = MemFiles::new(
+        entries(alloc, row.dag.as_bytes(), source)?,
+        [row.faults.read].to_vec(alloc)?,
+        alloc,
+    );
+    let mut store = MemStore::new(
+        [row.faults.store].to_vec(alloc)?,
+        [row.faults.stop].to_vec(alloc)?,
+        alloc,
+    );
+    let mut out = MemOut::new([row.faults.write].to_vec(alloc)?, alloc);
+    let status = call(alloc, row.words, &mut files, &mut store, &mut out)?;
+    assert_eq!(rt;
+        exit_code(&status),
+        row.exit,
+        "{:?} wanted {}",
+        status,
+        row.text
+    );
+    assert_eq!(rt; out.bytes(), row.text.as_bytes());
+    match store.publications() {
+        [] => assert_eq!(rt; row.sink, ABSENT),
+        [(name, bytes)] => {
+            assert_eq!(rt; name.as_str(), "kept");
+            assert_eq!(rt; bytes.as_slice(), row.sink.as_bytes());
+        }
+        _ => assert!(rt; false, "published twice"),
+    }
+    Ok(())
+}
+
+const RUN: &[&str] = &["run", "one.json"];
+
+#[test]
+fn runs(rt: HostRuntime) -> Result<(), Fail> {
+    let kept = Row {
+        words: RUN,
+        dag: ONE,
+        source: "ab\nc\nb\n",
+        faults: NONE,
+        exit: 0,
+        text: "SUCCEEDED\nsink kept records 2 bytes 5\n",
+        sink: "ab\nb\n",
+    };
+    let fault = Row {
+        exit: 12,
+        text: "FAILED device store\n",
+        sink: ABSENT,
+        ..kept
+    };
+    let usage = Row {
+        exit: 2,
+        text: USAGE,
+        sink: ABSENT,
+        ..kept
+    };
+    let rows = [
+        kept,
+        // Sorted, with what is there twice, and without a last line feed.
+        Row {
+            source: "b\nab\tx\nx\tb\nab\nb",
+            text: "SUCCEEDED\nsink kept records 4 bytes 12\n",
+            sink: "ab\nab\tx\nb\nb\n",
+            ..kept
+        },
+        Row {
+            source: "",
+            text: "SUCCEEDED\nsink kept records 0 bytes 0\n",
+            sink: "",
+            ..kept
+        },
+        Row {
+            dag: WC,
+            source: "a b a\n",
+            exit: 19,
+            text: "REFUSED other form\n",
+            sink: ABSENT,
+            ..kept
+        },
+        Row {
+            source: ABSENT,
+            exit: 4,
+            text: "REFUSED input missing in.txt\n",
+            sink: ABSENT,
+            ..kept
+        },
+        Row {
+            words: &["run", "two.json"],
+            exit: 4,
+            text: "REFUSED input missing two.json\n",
+            sink: ABSENT,
+            ..kept
+        },
+        Row {
+            faults: Faults { read: 1, ..NONE },
+            exit: 6,
+            text: "REFUSED input fault one.json\n",
+            sink: ABSENT,
+            ..kept
+        },
+        Row {
+            faults: Faults { read: 2, ..NONE },
+            exit: 6,
+            text: "REFUSED input fault in.txt\n",
+            sink: ABSENT,
+            ..kept
+        },
+        Row {
+            faults: Faults { write: 1, ..NONE },
+            exit: 14,
+            text: "",
+            ..kept
+        },
+        Row {
+            faults: Faults { store: 1, ..NONE },
+            ..fault
+        },
+        Row {
+            faults: Faults { store: 2, ..NONE },
+            ..fault
+        },
+        Row {
+            faults: Faults { store: 3, ..NONE },
+            ..fault
+        },
+        // The store took the call and its answer was lost.
+        Row {
+            faults: Faults { stop: 3, ..NONE },
+            sink: "ab\nb\n",
+            ..fault
+        },
+        Row {
+            words: &[],
+            ..usage
+        },
+        Row {
+            words: &["run"],
+            ..usage
+        },
+        Row {
+            words: &["run", "--", "one.json"],
+            ..usage
+        },
+        Row {
+            words: &["run", "one.json", "--trace", "--trace"],
+            ..usage
+        },
+        Row {
+            words: &["run", "-one.json"],
+            ..usage
+        },
+        Row {
+            words: &["run", ""],
+            ..usage
+        },
+        Row {
+            words: &["walk", "one.json"],
+            ..usage
+        },
+    ];
+    for row in rows.iter() {
+        check(&rt, rt.alloc(), row)?;
+    }
+    Ok(())
+}
+
+#[test]
+fn leaves_a_sink_that_is_there(rt: HostRuntime) -> Result<(), Fail> {
+    let alloc = rt.alloc();
+    let source = Some("ab\nc\nb\n".as_bytes());
+    let mut files = SureFiles::new(entries(alloc, ONE.as_bytes(), source)?);
+    let mut store = SureStore::new(alloc);
+    let mut out = SureOut::new(alloc);
+    let status = call(alloc, RUN, &mut files, &mut store, &mut out)?;
+    assert!(rt; matches!(&status, Status::Succeeded));
+    let status = call(alloc, RUN, &mut files, &mut store, &mut out)?;
+    assert_eq!(rt; exit_code(&status), 7);
+    assert_eq!(rt;
+        out.bytes(),
+        "SUCCEEDED\nsink kept records 2 bytes 5\nREFUSED sink exists kept\n".as_bytes()
+    );
+    assert_eq!(rt; store.publications().len(), 1);
+    Ok(())
+}
+
+fn changed(alloc: Global, old: &str, new: &str) -> Result<String, Fail> {
+    match ONE.split_once(old) {
+        Some((before, after)) => Ok(format!(in alloc; "{before}{new}{after}")?),
+        None => Ok(String::new(alloc)),
+    }
+}
+
+fn exit_of(alloc: Global, dag: &[u8]) -> Result<u8, Fail> {
+    let source = Some("ab\nc\nb\n".as_bytes());
+    let mut files = SureFiles::new(entries(alloc, dag, source)?);
+    let mut store = SureStore::new(alloc);
+    let status = call(alloc, RUN, &mut files, &mut store, &mut SureOut::new(alloc))?;
+    let code = exit_code(&status);
+    if code == 0 || store.publications().is_empty() {
+        Ok(code)
+    } else {
+        Ok(255)
+    }
+}
+
+#[test]
+fn reads_no_other_form(rt: HostRuntime) -> Result<(), Fail> {
+    let alloc = rt.alloc();
+    let changes = [
+        ("\"tasks\":1", "\"tasks\":2"),
+        ("\"tasks\":1", "\"tasks\":1.0"),
+        ("\"tasks\":1", "\"tasks\":1,\"more\":0"),
+        ("\"tasks\":1,", ""),
+        ("\"field\":0", "\"field\":256"),
+        ("\"field\":0", "\"field\":-1"),
+        ("\"field\":0", "\"field\":0,\"more\":0"),
+        ("contains", "eq"),
+        ("filter", "project"),
+        ("each", "count"),
+        ("\"kept\"", "\".kept\""),
+        ("\"kept\"", "\"kept/\""),
+        ("\"kept\"", "\"\""),
+        ("in.txt", "in txt"),
+        ("\"one\"", "\"o.e\""),
+        ("\"one\"", "\"one\",\"edges\":[]"),
+        ("}]}", "}"),
+    ];
+    for (old, new) in changes {
+        let dag = changed(alloc, old, new)?;
+        assert!(rt; !dag.is_empty(), "{old}");
+        assert_eq!(rt; exit_of(alloc, dag.as_bytes())?, 19, "{new}");
+    }
+    let same = [
+        ("\"field\":0", "\"field\":255"),
+        ("in.txt\",", "in.txt\" , "),
+        (
+            "\"name\":\"one\",\"vertices\"",
+            "\"name\":\"_-9Z\",\"vertices\"",
+        ),
+    ];
+    for (old, new) in same {
+        let dag = changed(alloc, old, new)?;
+        assert_eq!(rt; exit_of(alloc, dag.as_bytes())?, 0, "{new}");
+    }
+    assert_eq!(rt; exit_of(alloc, b"")?, 19);
+    assert_eq!(rt; exit_of(alloc, b"{\"name\":\"\xff\"}")?, 19);
+    assert_eq!(rt; exit_of(alloc, vec![in alloc; b'['; 1000]?.as_slice())?, 19);
+    Ok(())
+}
+
+#[test]
+fn keeps_the_limits(rt: HostRuntime) -> Result<(), Fail> {
+    let alloc = rt.alloc();
+    let mut dag = ONE.as_bytes().to_vec(alloc)?;
+    dag.resize(1_048_576, b' ')?;
+    assert_eq!(rt; exit_of(alloc, &dag)?, 0);
+    dag.push(b' ')?;
+    assert_eq!(rt; exit_of(alloc, &dag)?, 19);
+    for (len, exit) in [(67_108_864, 0), (67_108_865, 19)] {
+        let source = vec![in alloc; b'b'; len]?;
+        let mut files = SureFiles::new(entries(alloc, ONE.as_bytes(), Some(&source))?);
+        let mut store = SureStore::new(alloc);
+        let status = call(alloc, RUN, &mut files, &mut store, &mut SureOut::new(alloc))?;
+        assert_eq!(rt; exit_code(&status), exit);
+    }
+    Ok(())
+}
+
+#[test]
+fn has_an_exit_code_for_each_status(rt: HostRuntime) -> Result<(), Fail> {
+    let alloc = rt.alloc();
+    assert_eq!(rt; exit_code(&Status::Succeeded), 0);
+    assert_eq!(rt; exit_code(&Status::Usage), 2);
+    assert_eq!(rt;
+        exit_code(&Status::InputMissing(Name::copy_of(alloc, "a")?)),
+        4
+    );
+    assert_eq!(rt;
+        exit_code(&Status::InputFault(Name::copy_of(alloc, "a")?)),
+        6
+    );
+    assert_eq!(rt;
+        exit_code(&Status::SinkExists(Name::copy_of(alloc, "a")?)),
+        7
+    );
+    assert_eq!(rt; exit_code(&Status::DeviceFault(Device::Disk)), 12);
+    assert_eq!(rt; exit_code(&Status::DeviceFault(Device::Store)), 12);
+    assert_eq!(rt; exit_code(&Status::OutFault), 14);
+    assert_eq!(rt; exit_code(&Status::NoMemory), 15);
+    assert_eq!(rt; exit_code(&Status::OtherForm), 19);
+    Ok(())
+}

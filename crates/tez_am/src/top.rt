@@ -1,0 +1,63 @@
+// The top call.
+ghost use Rattle.std.specs.Prelude.{◌≡◌, ◌≢◌, ℕ, List, None, map, string_bytes};
+ghost use Rattle.tez_ports.specs.Content.{Told};
+ghost use Rattle.tez_am.specs.Call.{reads_of, stored_of, writes_of};
+ghost use Rattle.tez_am.specs.Cause.{Cause, Leaves};
+ghost use Rattle.tez_am.specs.Rows.{IsAnswer, KeepsRows};
+ghost use Rattle.tez_am.specs.Words.{dag_word};
+
+use crate::accept::accept;
+use crate::run::run;
+use crate::say::say;
+use crate::status::{Device, Status};
+use crate::words::dag_file;
+use std::alloc::Global;
+use tez_events::Trace;
+use tez_ports::{Gate, InputFiles, JournalDisk, OutputStore, TextOut};
+
+/// Runs a command: publishes the sink of its DAG file once, with the kept records of the source in
+/// byte order, and says so, or says why not. The disk and the gate are not used, and the log stays
+/// empty. Linear in the source but for the sort; it holds the source, the kept records twice, and
+/// 32 bytes for each kept record.
+pub fn am_run<F: InputFiles, S: OutputStore, D: JournalDisk, O: TextOut, G: Gate + Sync>(
+    alloc: Global,
+    words: &[String],
+    files: &mut F,
+    store: &mut S,
+    _disk: &mut D,
+    out: &mut O,
+    _gate: &G,
+    _log: &mut Trace,
+) -> Status
+    // Each answer has its cause.
+    ensures cause { Cause (record {
+      words = map string_bytes words.now;
+      reads = reads_of F.files F.faults F.failed files.old files.new;
+      store = stored_of S.store S.faults S.stops store.old store.new;
+      out = writes_of O.written O.faults out.old out.new;
+    }) result }
+    // Succeeded means that the sink was published exactly once, with exactly the kept records in byte
+    // order, and that the text says so. Each other answer says what it left.
+    ensures headline { Leaves (record {
+      words = map string_bytes words.now;
+      reads = reads_of F.files F.faults F.failed files.old files.new;
+      store = stored_of S.store S.faults S.stops store.old store.new;
+      out = writes_of O.written O.faults out.old out.new;
+    }) result }
+    // Each answer comes where it is due, unless a device fails or memory is short.
+    ensures usage { dag_word (map string_bytes words.now) ≡ None → IsAnswer Status.Usage result }
+    ensures rows { Told (F.files files.old) (λ m. KeepsRows (map string_bytes words.now) m (S.store store.old) result) }
+    // Sure devices are not blamed.
+    ensures sure_files { F.is_sure files.old → (n : List ℕ) → result ≢ Status.InputFault n }
+    ensures sure_store { S.is_sure store.old → result ≢ Status.DeviceFault Device.Store }
+    ensures sure_out { O.is_sure out.old → result ≢ Status.OutFault }
+    ensures disk { (D.faults _disk.new ≡ D.faults _disk.old) × (D.stops _disk.new ≡ D.stops _disk.old) × (D.spare _disk.new ≡ D.spare _disk.old) }
+{
+    let Some(word) = dag_file(words) else {
+        return say(alloc, out, Err(Status::Usage));
+    };
+    match accept(alloc, word, files) {
+        Ok(job) => say(alloc, out, run(alloc, job, store)),
+        Err(refusal) => say(alloc, out, Err(refusal)),
+    }
+}

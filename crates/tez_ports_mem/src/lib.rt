@@ -1,0 +1,32 @@
+//! Devices in memory, for tests and for what never fails.
+//!
+//! `MemFiles`, `MemStore` and `MemOut` take lists of the calls that are to fail or to be stopped, numbered
+//! from 1. A failed call takes no effect; a stopped call takes effect where there is memory for it, as
+//! when the answer is lost. A number in both lists fails. `SureFiles`, `SureStore` and `SureOut` never fail
+//! nor stop, but for a name that is not readied or an attempt that is not staged.
+//! All of them tell what they hold.
+#![tactic(auto)]
+
+mod calls;
+mod contents;
+mod files;
+mod gate;
+mod named;
+mod out;
+mod room;
+mod staged;
+mod store;
+mod sure_files;
+mod sure_out;
+mod sure_store;
+
+pub use files::MemFiles;
+pub use gate::OpenGate;
+pub use out::MemOut;
+pub use store::MemStore;
+pub use sure_files::SureFiles;
+pub use sure_out::SureOut;
+pub use sure_store::SureStore;
+
+#[cfg(test)]
+mod tests;

@@ -1,0 +1,3 @@
+pub mod RouteLemmas
+pub mod Rows
+pub mod TableLemmas
