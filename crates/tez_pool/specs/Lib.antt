@@ -1,2 +1,0 @@
-pub mod PoolState
-pub mod Table

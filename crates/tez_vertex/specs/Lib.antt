@@ -1,2 +1,0 @@
-pub mod VertexTasks
-pub mod Table
