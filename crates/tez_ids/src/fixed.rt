@@ -18,6 +18,7 @@ pub fn write_fixed(a: AttemptId, into: &mut [u8; 22])
 /// Reads what `write_fixed` wrote. Each 22 bytes are those of one attempt.
 pub fn read_fixed(bytes: &[u8; 22]) -> AttemptId
     ensures value { fixed result ≡ bytes.now }
+    ensures fits { FitsFixed result }
     ensures inverse { (a : AttemptId) → FitsFixed a → bytes.now ≡ fixed a → result ≡ a }
 {
     AttemptId {

@@ -1,0 +1,2 @@
+pub mod TaskState
+pub mod Table
