@@ -1,0 +1,4 @@
+pub mod Dag
+pub mod Faults
+pub mod Order
+pub mod Ranges
