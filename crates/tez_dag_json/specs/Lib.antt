@@ -2,3 +2,4 @@ pub mod Answers
 pub mod Paths
 pub mod Kinds
 pub mod Places
+pub mod Form

@@ -12,7 +12,7 @@ at_key [] key = key
 at_key (b ∷ bs) key = (b ∷ bs) ++ codes "." ++ key
 
 abbrev pub at_place : Path → ℕ → Path
-at_place path n = path ++ (codes "[" ++ (decimal n ++ codes "]"))
+at_place path n = path ++ codes "[" ++ decimal n ++ codes "]"
 
 abbrev pub shown : Path → List ℕ
 shown [] = codes "."

@@ -3,6 +3,7 @@ ghost use Rattle.tez_dag_json.specs.declared.fault.DagFault.TheVariants.{NoMemor
 
 use std::alloc::AllocError;
 use tez_ids::Name;
+use tez_plan::PlanFault;
 use thiserror::Error;
 
 /// Why a DAG file is refused. A path is made of keys joined by `.` and of places of lists in
@@ -18,6 +19,9 @@ pub enum DagFault {
     /// A number is outside its range, a list too long or too short, or a text too long.
     #[error("range {}", .key.as_str())]
     OutOfRange { key: Name },
+    /// The parts make no valid plan.
+    #[error("plan: {0}")]
+    Plan(PlanFault),
     #[error("no memory")]
     NoMemory,
 }

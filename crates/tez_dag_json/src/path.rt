@@ -23,7 +23,11 @@ pub(crate) fn key_path(alloc: Global, path: &str, key: &str) -> Result<String, A
 pub(crate) fn place_path(alloc: Global, path: &str, place: usize) -> Result<String, AllocError>
     ensures { IfOk result (λ s. string_bytes s ≡ at_place path.now place) }
 {
-    format!(in alloc; "{path}[{place}]")
+    let mut joined = String::from_str(alloc, path)?;
+    joined.push_str("[")?;
+    joined.push_str(format!(in alloc; "{place}")?.as_str())?;
+    joined.push_str("]")?;
+    Ok(joined)
 }
 
 /// A path as messages show it.
