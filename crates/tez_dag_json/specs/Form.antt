@@ -32,31 +32,31 @@ columns = list_within 1 8 column
 
 -- ---- heads, by their `op`
 
-abbrev pub plain_head : Head → Reader Head
+unfoldable pub plain_head : Head → Reader Head
 plain_head it at d = do
   no_others (codes "op" ∷ []) at d
   Ok it
 
-abbrev pub sum_head : Reader Head
+unfoldable pub sum_head : Reader Head
 sum_head at d = do
   value ← required (codes "value") column at d
   no_others (codes "op" ∷ codes "value" ∷ []) at d
   Ok (Sum value)
 
-abbrev pub join_head : Reader Head
+unfoldable pub join_head : Reader Head
 join_head at d = do
   left ← required (codes "left") (word is_name) at d
   no_others (codes "op" ∷ codes "left" ∷ []) at d
   Ok (Join left)
 
-abbrev pub keyed_head : (List ℕ → List ℕ → Head) → Reader Head
+unfoldable pub keyed_head : (List ℕ → List ℕ → Head) → Reader Head
 keyed_head it at d = do
   key ← required (codes "key") columns at d
   side_key ← required (codes "side_key") columns at d
   no_others (codes "op" ∷ codes "key" ∷ codes "side_key" ∷ []) at d
   Ok (it key side_key)
 
-abbrev pub heads : List (List ℕ × Reader Head)
+unfoldable pub heads : List (List ℕ × Reader Head)
 heads =
     (codes "each", plain_head Each)
     ∷ (codes "count", plain_head Count)
@@ -68,7 +68,7 @@ heads =
     ∷ (codes "drop_in", keyed_head (λ key side_key. DropIn key side_key))
     ∷ []
 
-abbrev pub head : Reader Head
+unfoldable pub head : Reader Head
 head at d = do
   an_object at d
   further ← chosen (codes "op") heads at d
@@ -76,23 +76,23 @@ head at d = do
 
 -- ---- steps, by their `op`
 
-abbrev pub tokenise_step : Reader Step
+unfoldable pub tokenise_step : Reader Step
 tokenise_step at d = do
   no_others (codes "op" ∷ []) at d
   Ok Tokenise
 
-abbrev pub text_test : (List ℕ → Test) → Reader Test
+unfoldable pub text_test : (List ℕ → Test) → Reader Test
 text_test it at d = do
   text ← text_of 255 at d
   Ok (it text)
 
-abbrev pub number_test : (ℤ → Test) → Reader Test
+unfoldable pub number_test : (ℤ → Test) → Reader Test
 number_test it at d = do
   z ← number at d
   Ok (it z)
 
 -- how the `value` of each test is read
-abbrev pub tests : List (List ℕ × Reader Test)
+unfoldable pub tests : List (List ℕ × Reader Test)
 tests =
     (codes "eq", text_test (λ text. Eq text))
     ∷ (codes "ne", text_test (λ text. Ne text))
@@ -101,7 +101,7 @@ tests =
     ∷ (codes "gt", number_test (λ z. Gt z))
     ∷ []
 
-abbrev pub filter_step : Reader Step
+unfoldable pub filter_step : Reader Step
 filter_step at d = do
   field ← required (codes "field") column at d
   test ← chosen (codes "test") tests at d
@@ -109,16 +109,16 @@ filter_step at d = do
   no_others (codes "op" ∷ codes "field" ∷ codes "test" ∷ codes "value" ∷ []) at d
   Ok (Filter field it)
 
-abbrev pub project_step : Reader Step
+unfoldable pub project_step : Reader Step
 project_step at d = do
   cols ← required (codes "cols") columns at d
   no_others (codes "op" ∷ codes "cols" ∷ []) at d
   Ok (Project cols)
 
-abbrev pub steps : List (List ℕ × Reader Step)
+unfoldable pub steps : List (List ℕ × Reader Step)
 steps = (codes "tokenise", tokenise_step) ∷ (codes "filter", filter_step) ∷ (codes "project", project_step) ∷ []
 
-abbrev pub step : Reader Step
+unfoldable pub step : Reader Step
 step at d = do
   an_object at d
   further ← chosen (codes "op") steps at d
@@ -126,7 +126,7 @@ step at d = do
 
 -- ---- vertices and edges
 
-abbrev pub vertex : Reader VertexSpec
+unfoldable pub vertex : Reader VertexSpec
 vertex at d = do
   an_object at d
   name ← required (codes "name") (word is_name) at d
@@ -143,23 +143,23 @@ abbrev pub unless_empty : Path → List VertexSpec → Answer (List VertexSpec)
 unless_empty at [] = shape at
 unless_empty at (v ∷ vs) = Ok (v ∷ vs)
 
-abbrev pub vertices : Reader (List VertexSpec)
+unfoldable pub vertices : Reader (List VertexSpec)
 vertices at d = list vertex at d >>= unless_empty at
 
-abbrev pub keyless : Movement → Reader Movement
+unfoldable pub keyless : Movement → Reader Movement
 keyless it at d = do
   absent (codes "keys") at d
   Ok it
 
-abbrev pub by_keys : Reader Movement
+unfoldable pub by_keys : Reader Movement
 by_keys at d = do
   keys ← required (codes "keys") columns at d
   Ok (ScatterGather keys)
 
-abbrev pub movements : List (List ℕ × Reader Movement)
+unfoldable pub movements : List (List ℕ × Reader Movement)
 movements = (codes "ONE_TO_ONE", keyless OneToOne) ∷ (codes "BROADCAST", keyless Broadcast) ∷ (codes "SCATTER_GATHER", by_keys) ∷ []
 
-abbrev pub edge : Reader EdgeSpec
+unfoldable pub edge : Reader EdgeSpec
 edge at d = do
   an_object at d
   source ← required (codes "from") (word is_name) at d
@@ -176,7 +176,7 @@ abbrev pub balanced : Path → ConfValues → Answer ConfValues
 balanced at c =
     if nat_le c.min_src c.max_src then (if nat_le (c.nodes * c.per_node) 64 then Ok c else out_of_range (at_key at (codes "per_node"))) else out_of_range (at_key at (codes "max_src"))
 
-abbrev pub conf : Reader ConfValues
+unfoldable pub conf : Reader ConfValues
 conf at d = do
   an_object at d
   min_src ← defaulted (codes "min_src") 250 (whole 0 1000) at d
@@ -193,12 +193,12 @@ conf at d = do
   balanced at (record { min_src = min_src; max_src = max_src; auto_parallel = auto_parallel; desired_bytes = desired_bytes; min_tasks = min_tasks; max_failed = max_failed; max_masters = max_masters; reuse = reuse; nodes = nodes; per_node = per_node })
 
 -- a missing configuration is one without keys
-abbrev pub conf_of : Data → Answer ConfValues
+unfoldable pub conf_of : Data → Answer ConfValues
 conf_of d = conf (codes "conf") (unwrap_or (get (codes "conf") d) (object no_members))
 
 -- ---- the document
 
-abbrev pub document : Data → Answer (Dag × ConfValues)
+unfoldable pub document : Data → Answer (Dag × ConfValues)
 document d = do
   an_object [] d
   name ← required (codes "name") (word is_name) [] d
@@ -209,8 +209,8 @@ document d = do
   Ok (record { name = name; vertices = some; edges = joins }, configuration)
 
 -- the value of a JSON text
-abbrev pub json : List ℕ → Option Data
+unfoldable pub json : List ℕ → Option Data
 json bytes = if is_utf8 bytes then read bytes else None
 
-abbrev pub form : List ℕ → Answer (Dag × ConfValues)
+unfoldable pub form : List ℕ → Answer (Dag × ConfValues)
 form bytes = option_map_or document (json bytes) (Err NotJson)

@@ -1,8 +1,9 @@
-//! The JSON form of a plan and its configuration, both ways.
+//! The JSON form of a plan and its configuration.
 #![tactic(auto)]
 
 mod fault;
-mod path;
 mod kinds;
+mod path;
+mod words;
 
 pub use fault::DagFault;

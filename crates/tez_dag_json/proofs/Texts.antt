@@ -1,0 +1,13 @@
+-- Texts of the file, and keys of its objects.
+use Rattle.std.proofs.Common.{◌≡◌, ℕ, ◌≤◌, List, [], ◌∷◌, length, Bool, true, ◌||◌, map, IsTrue, refl, ap, arith}
+use Rattle.std.proofs.lemmas.Str.{is_utf8-from_IsUtf8}
+use Rattle.std.specs.List.{list_any}
+use Rattle.std.specs.Str.{IsUtf8, bytes_eq}
+use Rattle.tez_plan.specs.Ranges.{is_filter_text}
+
+pub filter_text_fits : (t : List ℕ) → length t ≤ 255 → IsUtf8 t → IsTrue (is_filter_text t)
+filter_text_fits t short utf8 = grind (arith, is_utf8-from_IsUtf8 t utf8)
+
+pub any_of_map : {X Y : Type 0} (p : Y → Bool) (f : X → Y) (xs : List X) → list_any p (map f xs) ≡ list_any (λ x. p (f x)) xs
+any_of_map p f [] = refl
+any_of_map p f (x ∷ xs) = ap (λ b. p (f x) || b) (any_of_map p f xs)
