@@ -3,6 +3,10 @@ use Rattle.std.proofs.Common.{◌≡◌, ℕ, ◌≤◌, List, [], ◌∷◌, le
 use Rattle.std.proofs.lemmas.Str.{is_utf8-from_IsUtf8}
 use Rattle.std.specs.List.{list_any}
 use Rattle.std.specs.Str.{IsUtf8, bytes_eq}
+use Rattle.serde_json.specs.Events.{items_len}
+use Rattle.serde_json.specs.View.{items_view}
+use Rattle.serde_json.specs.declared.value.Value.{Value}
+use Rattle.serde_json.proofs.Views.{items_len-items_view}
 use Rattle.tez_plan.specs.Ranges.{is_filter_text}
 
 pub filter_text_fits : (t : List ℕ) → length t ≤ 255 → IsUtf8 t → IsTrue (is_filter_text t)
@@ -11,3 +15,6 @@ filter_text_fits t short utf8 = grind (arith, is_utf8-from_IsUtf8 t utf8)
 pub any_of_map : {X Y : Type 0} (p : Y → Bool) (f : X → Y) (xs : List X) → list_any p (map f xs) ≡ list_any (λ x. p (f x)) xs
 any_of_map p f [] = refl
 any_of_map p f (x ∷ xs) = ap (λ b. p (f x) || b) (any_of_map p f xs)
+
+pub length_of_items : (vs : List Value) → items_len (items_view vs) ≡ length vs
+length_of_items vs = items_len-items_view vs

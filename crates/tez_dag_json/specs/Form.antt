@@ -49,12 +49,27 @@ join_head at d = do
   no_others (codes "op" ∷ codes "left" ∷ []) at d
   Ok (Join left)
 
-unfoldable pub keyed_head : (List ℕ → List ℕ → Head) → Reader Head
-keyed_head it at d = do
+unfoldable pub two_keys : Reader (List ℕ × List ℕ)
+two_keys at d = do
   key ← required (codes "key") columns at d
   side_key ← required (codes "side_key") columns at d
   no_others (codes "op" ∷ codes "key" ∷ codes "side_key" ∷ []) at d
-  Ok (it key side_key)
+  Ok (key, side_key)
+
+unfoldable pub lookup_head : Reader Head
+lookup_head at d = do
+  keys ← two_keys at d
+  Ok (Lookup keys.0 keys.1)
+
+unfoldable pub keep_in_head : Reader Head
+keep_in_head at d = do
+  keys ← two_keys at d
+  Ok (KeepIn keys.0 keys.1)
+
+unfoldable pub drop_in_head : Reader Head
+drop_in_head at d = do
+  keys ← two_keys at d
+  Ok (DropIn keys.0 keys.1)
 
 unfoldable pub heads : List (List ℕ × Reader Head)
 heads =
@@ -63,9 +78,9 @@ heads =
     ∷ (codes "distinct", plain_head Distinct)
     ∷ (codes "sum", sum_head)
     ∷ (codes "join", join_head)
-    ∷ (codes "lookup", keyed_head (λ key side_key. Lookup key side_key))
-    ∷ (codes "keep_in", keyed_head (λ key side_key. KeepIn key side_key))
-    ∷ (codes "drop_in", keyed_head (λ key side_key. DropIn key side_key))
+    ∷ (codes "lookup", lookup_head)
+    ∷ (codes "keep_in", keep_in_head)
+    ∷ (codes "drop_in", drop_in_head)
     ∷ []
 
 unfoldable pub head : Reader Head
@@ -101,11 +116,15 @@ tests =
     ∷ (codes "gt", number_test (λ z. Gt z))
     ∷ []
 
+unfoldable pub filter_test : Reader Test
+filter_test at d = do
+  test ← chosen (codes "test") tests at d
+  required (codes "value") test at d
+
 unfoldable pub filter_step : Reader Step
 filter_step at d = do
   field ← required (codes "field") column at d
-  test ← chosen (codes "test") tests at d
-  it ← required (codes "value") test at d
+  it ← filter_test at d
   no_others (codes "op" ∷ codes "field" ∷ codes "test" ∷ codes "value" ∷ []) at d
   Ok (Filter field it)
 
@@ -159,15 +178,19 @@ by_keys at d = do
 unfoldable pub movements : List (List ℕ × Reader Movement)
 movements = (codes "ONE_TO_ONE", keyless OneToOne) ∷ (codes "BROADCAST", keyless Broadcast) ∷ (codes "SCATTER_GATHER", by_keys) ∷ []
 
+unfoldable pub movement : Reader Movement
+movement at d = do
+  keys ← chosen (codes "movement") movements at d
+  keys at d
+
 unfoldable pub edge : Reader EdgeSpec
 edge at d = do
   an_object at d
   source ← required (codes "from") (word is_name) at d
   target ← required (codes "to") (word is_name) at d
-  keys ← chosen (codes "movement") movements at d
-  movement ← keys at d
+  it ← movement at d
   no_others (codes "from" ∷ codes "to" ∷ codes "movement" ∷ codes "keys" ∷ []) at d
-  Ok (record { source = source; target = target; movement = movement })
+  Ok (record { source = source; target = target; movement = it })
 
 -- ---- the configuration
 

@@ -1,7 +1,7 @@
 ghost use Rattle.std.specs.Prelude.{◌≡◌};
 ghost use Rattle.tez_dag_json.specs.declared.fault.DagFault.TheVariants.{NoMemory};
 
-use std::alloc::AllocError;
+use std::alloc::{AllocError, AllocFailed};
 use tez_ids::Name;
 use tez_plan::PlanFault;
 use thiserror::Error;
@@ -30,6 +30,14 @@ impl From<AllocError> for DagFault {
     ghost from_gives = { λ _ fault. fault ≡ NoMemory };
 
     fn from(_refused: AllocError) -> DagFault {
+        DagFault::NoMemory
+    }
+}
+
+impl<T: Drop> From<AllocFailed<T>> for DagFault {
+    ghost from_gives = { λ _ fault. fault ≡ NoMemory };
+
+    fn from(_refused: AllocFailed<T>) -> DagFault {
         DagFault::NoMemory
     }
 }

@@ -26,7 +26,7 @@ pub(crate) struct At<'v> {
 }
 
 /// The whole number that a value is.
-fn integer(value: &Value) -> Option<i128>
+pub(crate) fn integer(value: &Value) -> Option<i128>
     ensures { result ≡ integer_of (view value.now) }
 {
     value.as_number()?.as_i128()

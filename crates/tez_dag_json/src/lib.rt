@@ -1,9 +1,15 @@
 //! The JSON form of a plan and its configuration.
 #![tactic(auto)]
 
+mod conf;
+mod edge;
 mod fault;
+mod head;
 mod kinds;
+mod list;
 mod path;
+mod step;
+mod vertex;
 mod words;
 
 pub use fault::DagFault;
