@@ -3,3 +3,4 @@ pub mod Paths
 pub mod Kinds
 pub mod Places
 pub mod Form
+pub mod Documents

@@ -2,12 +2,14 @@
 #![tactic(auto)]
 
 mod conf;
+mod document;
 mod edge;
 mod fault;
 mod head;
 mod kinds;
 mod list;
 mod path;
+mod read;
 mod step;
 mod vertex;
 mod words;
