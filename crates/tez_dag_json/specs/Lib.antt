@@ -4,3 +4,4 @@ pub mod Kinds
 pub mod Places
 pub mod Form
 pub mod Documents
+pub mod Canonical

@@ -13,5 +13,6 @@ mod read;
 mod step;
 mod vertex;
 mod words;
+mod write;
 
 pub use fault::DagFault;
