@@ -1,2 +1,5 @@
+pub mod Back
+pub mod BackWhole
 pub mod Members
 pub mod Texts
+pub mod Values

@@ -5,3 +5,4 @@ pub mod Places
 pub mod Form
 pub mod Documents
 pub mod Canonical
+pub mod Due
