@@ -27,15 +27,15 @@ steps_back path ss fits =
     list_within_back 0 64 step step_value step_in_range step_back path ss long parts.1
 
 -- the parts of a vertex are in their ranges
-record Parts (name : List ℕ) (tasks : ℕ) (source : Option (List ℕ)) (it : Head) (rest : List Step) (sink : Option (List ℕ)) : Type 0 where
-  named : is_name name ≡ true
-  some : is_within 1 1000 tasks ≡ true
-  file : option_map_or is_file source true ≡ true
-  headed : head_in_range it ≡ true
-  stepped : are_steps rest ≡ true
-  sunk : option_map_or is_sink sink true ≡ true
+pub record Parts (name : List ℕ) (tasks : ℕ) (source : Option (List ℕ)) (it : Head) (rest : List Step) (sink : Option (List ℕ)) : Type 0 where
+  pub named : is_name name ≡ true
+  pub some : is_within 1 1000 tasks ≡ true
+  pub file : option_map_or is_file source true ≡ true
+  pub headed : head_in_range it ≡ true
+  pub stepped : are_steps rest ≡ true
+  pub sunk : option_map_or is_sink sink true ≡ true
 
-parts_of : (name : List ℕ) (tasks : ℕ) (source : Option (List ℕ)) (it : Head) (rest : List Step) (sink : Option (List ℕ))
+pub parts_of : (name : List ℕ) (tasks : ℕ) (source : Option (List ℕ)) (it : Head) (rest : List Step) (sink : Option (List ℕ))
     → vertex_in_range (record { name = name; tasks = tasks; source = source; head = it; steps = rest; sink = sink }) ≡ true → Parts name tasks source it rest sink
 parts_of name tasks source it rest sink fits =
     let a = and_parts (is_name name && is_within 1 1000 tasks && option_map_or is_file source true && head_in_range it && are_steps rest) (option_map_or is_sink sink true) fits in

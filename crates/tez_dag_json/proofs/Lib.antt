@@ -1,5 +1,6 @@
 pub mod Back
 pub mod BackWhole
+pub mod Bounds
 pub mod Members
 pub mod Sizes
 pub mod Texts

@@ -1,6 +1,8 @@
 -- How long a compact JSON text can be, by the value.
 use Rattle.std.proofs.Common.{◌≡◌, ℕ, zero, suc, ◌+◌, ◌*◌, ◌/◌, ◌%◌, ◌==◌, ◌≤◌, pos, negsuc, ℤ, Bool, true, false, cond, nat_lt, List, [], ◌∷◌, ◌++◌, length, map, flat_map, decimal, refl, rules, arith, length-append}
 use Rattle.std.proofs.Math.Nat.{mul-suc}
+use Rattle.std.proofs.lemmas.Bool.{and_parts}
+use Rattle.std.specs.List.{list_all}
 use Rattle.std.specs.Char.{digit_char}
 use Rattle.std.specs.Fmt.{digits, digits_onto, digit_glyph, signed_decimal}
 use Rattle.json.specs.Print.{escape_byte, escape_letter, escape, quoted}
@@ -92,7 +94,10 @@ mutual
       omega (arith, comma_length later, quoted_length k, text_length d, members_length true ms, length-append (comma_if later) (quoted k ++ 58 ∷ (compact_text d ++ members_text true ms)),
       length-append (quoted k) (58 ∷ (compact_text d ++ members_text true ms)), length-append (compact_text d) (members_text true ms))
 
--- of a list whose elements have at most so much
-pub list_size : {X : Type 0} (value : X → Data) (most : ℕ) (xs : List X) → ((x : X) → size (value x) ≤ most) → items_size (items_of (map value xs)) ≤ (most + 1) * length xs + 1
-list_size value most [] at = omega arith
-list_size value most (x ∷ xs) at = let more = mul-suc (most + 1) (length xs) in omega (arith, more, at x, list_size value most xs at)
+-- of a list whose elements pass a test, and then have at most so much
+pub list_size : {X : Type 0} (value : X → Data) (fits : X → Bool) (most : ℕ) → ((x : X) → fits x ≡ true → size (value x) ≤ most) → (xs : List X) → list_all fits xs ≡ true → items_size (items_of (map value xs)) ≤ (most + 1) * length xs + 1
+list_size value fits most at [] all = omega arith
+list_size value fits most at (x ∷ xs) all =
+    let parts = and_parts (fits x) (list_all fits xs) all in
+    let more = mul-suc (most + 1) (length xs) in
+    omega (arith, more, at x parts.0, list_size value fits most at xs parts.1)
