@@ -16,3 +16,4 @@ mod words;
 mod write;
 
 pub use fault::DagFault;
+pub use write::dag_text;

@@ -1,9 +1,12 @@
-ghost use Rattle.std.specs.Prelude.{◌≡◌, IfOk, IsTrue, OnOk, Bool, true, codes};
+ghost use Rattle.std.specs.Prelude.{◌≡◌, ◌<◌, ◌^◌, length, IfOk, IsTrue, OnOk, Bool, true, codes};
 ghost use Rattle.std.specs.List.{list_all};
 ghost use Rattle.serde_json.specs.Data.{Data, string};
 ghost use Rattle.serde_json.specs.View.{view, members_view};
-ghost use Rattle.tez_plan.specs.Ranges.{is_filter_text, step_in_range, test_in_range, vertex_in_range};
-ghost use Rattle.tez_dag_json.specs.Canonical.{count, list_of, cols_value, keyed as keyed_value, head_value, test_value as value_of, test_word as word_of, step_value, edge_value, vertex_value, conf_value, document_value, with_text};
+ghost use Rattle.tez_plan.specs.Ranges.{is_filter_text, step_in_range, test_in_range, vertex_in_range, IsInRanges};
+ghost use Rattle.tez_plan.specs.Faults.{IsValid};
+ghost use Rattle.tez_conf.specs.Ranges.{IsInRange};
+ghost use Rattle.tez_dag_json.specs.Due.{IsDue};
+ghost use Rattle.tez_dag_json.specs.Canonical.{count, list_of, cols_value, keyed as keyed_value, head_value, test_value as value_of, test_word as word_of, step_value, edge_value, vertex_value, conf_value, document_value, with_text, canonical};
 
 use serde_json::{Map, Value, json};
 use std::alloc::{AllocError, Global};
@@ -197,10 +200,25 @@ fn conf(alloc: Global, values: &ConfValues) -> Result<Value, AllocError>
 /// The document of a plan and its configuration.
 #[tactic(auto, unfolding(crate::specs::Canonical::document_value))]
 fn document(alloc: Global, plan: &Plan, conf: &Conf) -> Result<Value, AllocError>
-    ensures { IfOk result (λ v. view v ≡ document_value plan.now conf.now) }
+    ensures value { IfOk result (λ v. view v ≡ document_value plan.now conf.now) }
+    ensures in_ranges { OnOk result (IsInRanges plan.now) }
+    ensures valid { OnOk result (IsValid plan.now) }
+    ensures in_range { OnOk result (IsInRange conf.now) }
 {
     let configuration = self::conf(alloc, &conf.values())?;
     let edges = list(alloc, plan.edges())?;
     let vertices = list(alloc, plan.vertices())?;
     json!(in alloc; {"conf": configuration, "edges": edges, "name": plan.name(), "vertices": vertices})
+}
+
+/// The canonical text of a plan and its configuration: compact JSON with the keys of each object in
+/// byte order. Every key is written but for a `source` or a `sink` that a vertex has not.
+#[tactic(auto, using(crate::proofs::Due::due_of_text, crate::proofs::Bounds::canonical_length, crate::proofs::Values::document_no_float, crate::proofs::Values::document_depth), unfolding(crate::specs::Canonical::canonical))]
+pub fn dag_text(alloc: Global, plan: &Plan, conf: &Conf) -> Result<Vec<u8>, AllocError>
+    ensures text { IfOk result (λ text. text.items ≡ canonical plan.now conf.now) }
+    ensures reads_back { IfOk result (λ text. IsDue text.items (Ok (plan.now, conf.now))) }
+    ensures short { IfOk result (λ text. length text.items < 2 ^ 23) }
+{
+    let document = document(alloc, plan, conf)?;
+    document.to_vec(alloc)
 }
