@@ -8,17 +8,17 @@ use Rattle.tez_dag_json.specs.Form.{form}
 use Rattle.tez_dag_json.specs.declared.fault.DagFault.{DagFault}
 use Rattle.tez_dag_json.specs.declared.fault.DagFault.TheVariants.{NotJson, Shape, OutOfRange, Plan, NoMemory}
 
--- the bytes say a plan with this fault
-pub record SaysFaulty (bytes : List ℕ) (fault : PlanFault) : Type 0 where
+-- the bytes are of the form, and this is the first fault of their plan
+pub record HasPlanFault (bytes : List ℕ) (fault : PlanFault) : Type 0 where
   pub said : Dag × ConfValues
   pub form_is : form bytes ≡ Ok said
   pub first : IsFirstFault said.0 fault
 
--- What they say where it is a valid plan, else the fault of the form, else that of the plan. Want of memory is never due.
+-- The plan and the configuration that they say, if it is a valid plan; else the fault of the form, or that of the plan. Want of memory is never due.
 unfoldable pub IsDue : List ℕ → Result (Dag × ConfValues) DagFault → Type 0
 IsDue bytes (Ok said) = (form bytes ≡ Ok said) × IsValid said.0
 IsDue bytes (Err NotJson) = form bytes ≡ Err NotJson
 IsDue bytes (Err (Shape path)) = form bytes ≡ Err (Shape path)
 IsDue bytes (Err (OutOfRange path)) = form bytes ≡ Err (OutOfRange path)
-IsDue bytes (Err (Plan fault)) = SaysFaulty bytes fault
+IsDue bytes (Err (Plan fault)) = HasPlanFault bytes fault
 IsDue bytes (Err NoMemory) = ⊥

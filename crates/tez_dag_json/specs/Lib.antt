@@ -6,3 +6,4 @@ pub mod Form
 pub mod Documents
 pub mod Canonical
 pub mod Due
+pub mod Names

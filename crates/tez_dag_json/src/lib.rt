@@ -8,6 +8,7 @@ mod fault;
 mod head;
 mod kinds;
 mod list;
+mod named;
 mod path;
 mod read;
 mod step;
@@ -16,4 +17,5 @@ mod words;
 mod write;
 
 pub use fault::DagFault;
+pub use named::word_and_place;
 pub use write::dag_text;
