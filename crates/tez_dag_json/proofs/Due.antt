@@ -1,4 +1,4 @@
--- What is due to the canonical text.
+-- What is due to the bytes of a file, and that no other answer is.
 use Rattle.std.proofs.Common.{◌≡◌, ℕ, List, Some, Ok, refl}
 use Rattle.std.specs.Str.{IsUtf8}
 use Rattle.serde_json.specs.Read.{read}
@@ -20,3 +20,13 @@ form_of_text text p c utf8 reads ranges range = rw (json_value text (document_va
 pub due_of_text : (text : List ℕ) (p : Dag) (c : ConfValues) → IsUtf8 text → read text ≡ Some (document_value p c) → IsInRanges p → IsValid p → IsInRange c → IsDue text (Ok (p, c))
 unfolding IsDue
 due_of_text text p c utf8 reads ranges valid range = (form_of_text text p c utf8 reads ranges range, valid)
+
+-- ---- the answers of the walk and of the plan
+
+pub due_plan : (bytes : List ℕ) (p : Dag) (c : ConfValues) → form bytes ≡ Ok (p, c) → IsValid p → IsDue bytes (Ok (p, c))
+unfolding IsDue
+due_plan bytes p c said valid = (said, valid)
+
+pub due_fault : (bytes : List ℕ) (p : Dag) (c : ConfValues) (f : PlanFault) → form bytes ≡ Ok (p, c) → IsFirstFault p f → IsDue bytes (Err (Plan f))
+unfolding IsDue
+due_fault bytes p c f said first = record { said = (p, c); form_is = said; first = first }

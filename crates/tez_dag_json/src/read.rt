@@ -1,6 +1,10 @@
-ghost use Rattle.std.specs.Prelude.{◌≡◌, Some, None, IfOk, IfErr, option_map, MatchResult, ◌≢◌};
+ghost use Rattle.std.specs.Prelude.{◌≡◌, ◌≢◌, ℕ, List, Result, Some, None, IfOk, IfErr};
 ghost use Rattle.serde_json.specs.View.{view};
+ghost use Rattle.tez_conf.specs.declared.values.ConfValues.{ConfValues};
+ghost use Rattle.tez_plan.specs.Dag.{Dag};
 ghost use Rattle.tez_plan.specs.Ranges.{IsInRanges};
+ghost use Rattle.tez_dag_json.specs.Due.{IsDue};
+ghost use Rattle.tez_dag_json.specs.declared.fault.DagFault.{DagFault};
 ghost use Rattle.tez_dag_json.specs.Answers.{ReadsAs};
 ghost use Rattle.tez_dag_json.specs.Documents.{contents};
 ghost use Rattle.tez_dag_json.specs.Form.{json, form};
@@ -10,6 +14,8 @@ use crate::document::{Document, read_document};
 use crate::fault::DagFault;
 use serde_json::Value;
 use std::alloc::Global;
+use tez_conf::Conf;
+use tez_plan::{Plan, PlanFault, plan_new};
 
 /// The value of a JSON text.
 #[tactic(auto, using(crate::proofs::Texts::json_value, crate::proofs::Texts::no_json), unfolding(crate::specs::Form::json))]
@@ -35,3 +41,26 @@ fn said(alloc: Global, bytes: &[u8]) -> Result<Document, DagFault>
         Err(fault) => Err(fault),
     }
 }
+
+/// The plan and the configuration that a DAG file says, or why it is refused: the first fault of the
+/// walk through the file, or the first fault of its plan. A file of any length is read.
+#[tactic(auto, using(crate::proofs::Due::due_form, crate::proofs::Due::due_plan, crate::proofs::Due::due_fault))]
+pub fn read_dag(alloc: Global, bytes: &[u8]) -> Result<(Plan, Conf), DagFault>
+    ensures accepted { IfOk result (λ said. IsDue bytes.now (Ok said)) }
+    ensures refused { IfErr result (λ fault. fault ≢ NoMemory → IsDue bytes.now (Err fault)) }
+{
+    let said = match said(alloc, bytes) {
+        Ok(said) => said,
+        Err(fault) => return Err(fault),
+    };
+    match plan_new(alloc, said.name, said.vertices, said.edges) {
+        Ok(plan) => Ok((plan, said.conf)),
+        Err(PlanFault::NoMemory) => Err(DagFault::NoMemory),
+        Err(fault) => Err(DagFault::Plan(fault)),
+    }
+}
+
+/// At most one answer is due to the bytes of a file.
+pub fn one_answer_is_due()
+    ensures { (bytes : List ℕ) (a b : Result (Dag × ConfValues) DagFault) → IsDue bytes a → IsDue bytes b → a ≡ b }
+{}
