@@ -1,7 +1,10 @@
 //! Plans: vertices joined by edges, with the checks that make a plan valid.
 #![tactic(auto)]
 
+mod check;
 mod fault;
+mod graph;
+mod order;
 mod parts;
 mod plan;
 

@@ -1,0 +1,84 @@
+ghost use Rattle.std.specs.Prelude.{◌≡◌, ◌≤◌, ◌<◌, ◌+◌, ◌&&◌, ◌==◌, ◌^◌, ◌-◌, ℕ, Some, not, length, map, max, slice_get, IfOk, IfErr, OnOk};
+ghost use Rattle.std.specs.List.{list_any, position, fold, filter, zip, All};
+ghost use Rattle.tez_plan.specs.Dag.{vertex};
+ghost use Rattle.tez_plan.specs.Order.{topo, depth, vertex_numbers};
+ghost use Rattle.tez_plan.specs.Faults.{Passes, IsFirstFault};
+ghost use Rattle.tez_plan.specs.Graph.{waits_for, longest_into, AllWithin};
+
+use crate::fault::PlanFault;
+use crate::graph::Graph;
+use std::alloc::{AllocError, Global};
+use tez_ids::VertexId;
+
+impl Graph {
+    /// The vertices in order: again and again the least one whose predecessors are all out. Those
+    /// on a cycle or behind one are left out.
+    pub fn order(&self, alloc: Global) -> Result<Vec<VertexId>, AllocError>
+        ensures { IfOk result (λ order. order.items ≡ map vertex (topo self.now)) }
+    {
+        let count = self.vertices().len();
+        let mut order = Vec::new(alloc);
+        let mut out = vec![in alloc; false; count]?;
+        let mut waits = vec![in alloc; false; count]?;
+        for _ in 0..count {
+            mark_waiting(self.ends(), &out, &mut waits);
+            if let Some(v) = first_ready(&out, &waits) {
+                order.push(VertexId(v as u16))?;
+                out[v] = true;
+            }
+        }
+        Ok(order)
+    }
+
+    /// The length of the longest path to each vertex.
+    pub fn depths(&self, alloc: Global) -> Result<Vec<u32>, AllocError>
+        ensures { IfOk result (λ depths. depths.items ≡ map (depth self.now) (vertex_numbers self.now)) }
+    {
+        let count = self.vertices().len();
+        let mut known = vec![in alloc; 0; count]?;
+        let mut longer = vec![in alloc; 0; count]?;
+        for _ in 0..count {
+            lengthen(self.ends(), &known, &mut longer);
+            known.copy_from_slice(&longer);
+        }
+        Ok(known)
+    }
+}
+
+/// Marks the vertices that wait for one that is not out.
+fn mark_waiting(ends: &[(VertexId, VertexId)], out: &[bool], waits: &mut [bool])
+    requires inside { AllWithin (length out.now) ends.now }
+    requires as_many { length waits.old ≡ length out.now }
+    ensures { (v : ℕ) → v < length waits.new → slice_get waits.new v ≡ Some (waits_for ends.now out.now v) }
+{
+    waits.fill(false);
+    for (source, target) in ends {
+        if !out[source.0 as usize] {
+            waits[target.0 as usize] = true;
+        }
+    }
+}
+
+/// The first vertex that is not out and waits for none.
+fn first_ready(out: &[bool], waits: &[bool]) -> Option<usize>
+    ensures { result ≡ position (λ q. not q.0 && not q.1) (zip out.now waits.now) }
+{
+    out.iter()
+        .zip(waits.iter())
+        .position(|(out, waits)| !*out && !*waits)
+}
+
+/// The longest path to each vertex, where the one to its source is known.
+fn lengthen(ends: &[(VertexId, VertexId)], known: &[u32], longer: &mut [u32])
+    requires inside { AllWithin (length known.now) ends.now }
+    requires as_many { length longer.old ≡ length known.now }
+    requires short { All (λ n. n < 2 ^ 32 - 1) known.now }
+    ensures { (v : ℕ) → v < length longer.new → slice_get longer.new v ≡ Some (longest_into ends.now known.now v) }
+{
+    longer.fill(0);
+    for (source, target) in ends {
+        let length = known[source.0 as usize] + 1;
+        let so_far = longer[target.0 as usize];
+        longer[target.0 as usize] = so_far.max(length);
+    }
+}
