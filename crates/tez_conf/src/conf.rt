@@ -1,4 +1,5 @@
-ghost use Rattle.std.specs.Prelude.{◌≡◌, None, Some, MatchResult, true, false};
+ghost use Rattle.std.specs.Prelude.{◌≡◌, ◌↔◌, IfOk, IsOk, IsNone, true, false};
+ghost use Rattle.std.specs.Result.{result_err};
 ghost use Rattle.tez_conf.specs.Ranges.{IsInRange, first_fault};
 
 use crate::values::{ConfFault, ConfValues};
@@ -27,7 +28,9 @@ impl Model for Conf {
 impl Conf {
     /// The configuration of these values, or the first range that they are outside of.
     pub fn new(values: ConfValues) -> Result<Self, ConfFault>
-        ensures values { MatchResult result (λ c. (c ≡ values) × (first_fault values ≡ None)) (λ fault. first_fault values ≡ Some fault) }
+        ensures values { IfOk result (λ c. c ≡ values) }
+        ensures accepted { IsOk result ↔ IsInRange values }
+        ensures fault { result_err result ≡ first_fault values }
     {
         match fault(&values) {
             Some(fault) => Err(fault),
@@ -116,7 +119,8 @@ impl Conf {
 
 /// The first range that the values are outside of.
 fn fault(values: &ConfValues) -> Option<ConfFault>
-    ensures { result ≡ first_fault values.now }
+    ensures first { result ≡ first_fault values.now }
+    ensures accepted { IsNone result ↔ IsInRange values.now }
 {
     if values.min_src > 1000 {
         return Some(ConfFault::MinSrc);

@@ -217,7 +217,7 @@ unfolding checks
 inputs_fault p n h t = is_first 12 p n h (record { there = t.there; before = λ m below f. both f (t.before m below) })
 
 pub few_parts : (p : Dag) → length p.vertices ≤ 64 → length p.edges ≤ 256 → IsNowhere (too_many_parts p)
-few_parts p vertices edges n = neither (n == 64) (n == 256) (nat_lt 64 (length p.vertices)) (nat_lt 256 (length p.edges)) (le-ltb (length p.vertices) 64 vertices) (le-ltb (length p.edges) 256 edges)
+few_parts p vertices edges n = neither (n == 64) (n == 256) (nat_lt 64 (length p.vertices)) (nat_lt 256 (length p.edges)) (le-ltb 64 (length p.vertices) vertices) (le-ltb 256 (length p.edges) edges)
   where
     neither : (a b c d : Bool) → c ≡ false → d ≡ false → (a && c) || (b && d) ≡ false
     neither true true c d e f = cc

@@ -7,4 +7,5 @@ pub mod RankLemmas
 pub mod Results
 pub mod Rows
 pub mod Samples
+pub mod StepLemmas
 pub mod TopoLemmas

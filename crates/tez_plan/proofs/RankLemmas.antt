@@ -12,7 +12,7 @@ use Rattle.tez_lists.proofs.Ranges.{one_in_range, all_below, at_below}
 use Rattle.tez_plan.specs.declared.parts.EdgeSpec.{EdgeSpec}
 use Rattle.tez_plan.specs.Dag.{Dag, from, to, edges_into, IsEdge}
 use Rattle.tez_plan.specs.Order.{among, vertex_numbers, sources_of, is_ready}
-use Rattle.tez_plan.specs.Faults.{IsBehindCycle, IsValid, AllKnown, is_known}
+use Rattle.tez_plan.specs.Faults.{IsBehindCycle, IsValid, AllKnown, IsNowhere, is_known, unknown_name}
 use Rattle.tez_plan.specs.Graph.{AreInside}
 use Rattle.tez_plan.proofs.CheckLemmas.{valid_parts}
 use Rattle.tez_plan.proofs.OrderLemmas.{all_map, all_filter, IsRanking}
@@ -224,6 +224,9 @@ edges_inside p all_known = all_map (λ e. not (is_known p e.source && is_known p
     (λ e h. let parts = and_parts _ _ (not-false _ h) in
     (position-below (λ s. bytes_eq e.source s.name) p.vertices parts.0, position-below (λ s. bytes_eq e.target s.name) p.vertices parts.1))
     p.edges (nowhere (λ e. not (is_known p e.source && is_known p e.target)) p.edges all_known)
+
+pub known_everywhere : (p : Dag) → IsNowhere (unknown_name p) → AllKnown p
+known_everywhere p h e known = both known (h e)
 
 pub inside_edges : (p : Dag) → IsValid p → AllByRecursion (AreInside p) p.edges
 inside_edges p valid = edges_inside p (valid_parts p valid).known_names

@@ -1,5 +1,5 @@
 -- What a graph keeps beside the lists of a plan.
-use Rattle.std.specs.Prelude.{◌≡◌, ℕ, ◌<◌, ◌≤◌, ◌==◌, ◌&&◌, Bool, false, not, List, map, length, take, max, slice_get, unwrap_or, ◌+◌}
+use Rattle.std.specs.Prelude.{◌≡◌, ℕ, ◌<◌, ◌≤◌, ◌==◌, ◌&&◌, Bool, false, not, List, map, length, take, max, slice_get, unwrap_or, All, ◌+◌}
 use Rattle.std.specs.List.{AllByRecursion, list_all, list_any, filter, fold, zip, position_or_len}
 use Rattle.std.specs.Option.{option_map_or}
 use Rattle.std.specs.Str.{bytes_eq}
@@ -46,7 +46,7 @@ ends_again ends n = option_map_or (λ t. list_any (λ u. t.0.0 == u.0.0 && t.1.0
 
 -- both ends are below n
 abbrev pub AllWithin : ℕ → List (VertexId × VertexId) → Type 0
-AllWithin n ends = AllByRecursion (λ t. (t.0.0 < n) × (t.1.0 < n)) ends
+AllWithin n ends = All (λ t. (t.0.0 < n) × (t.1.0 < n)) ends
 
 -- some edge leads to v from a vertex that is not out
 unfoldable pub waits_for : List (VertexId × VertexId) → List Bool → ℕ → Bool

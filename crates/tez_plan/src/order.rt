@@ -1,4 +1,4 @@
-ghost use Rattle.std.specs.Prelude.{◌≡◌, ◌≤◌, ◌<◌, ◌+◌, ◌&&◌, ◌==◌, ◌^◌, ◌-◌, ℕ, Some, not, length, map, max, slice_get, IfOk, IfErr, OnOk};
+ghost use Rattle.std.specs.Prelude.{◌≡◌, ◌≤◌, ◌<◌, ◌+◌, ◌&&◌, ◌==◌, ◌^◌, ◌-◌, ℕ, false, not, length, map, max, slice_index_or as get_or, IfOk, IfErr, OnOk};
 ghost use Rattle.std.specs.List.{list_any, position, fold, filter, zip, All};
 ghost use Rattle.tez_plan.specs.Dag.{vertex};
 ghost use Rattle.tez_plan.specs.Order.{topo, depth, vertex_numbers};
@@ -49,13 +49,11 @@ impl Graph {
 fn mark_waiting(ends: &[(VertexId, VertexId)], out: &[bool], waits: &mut [bool])
     requires inside { AllWithin (length out.now) ends.now }
     requires as_many { length waits.old ≡ length out.now }
-    ensures { (v : ℕ) → v < length waits.new → slice_get waits.new v ≡ Some (waits_for ends.now out.now v) }
+    ensures { (v : ℕ) → v < length waits.new → get_or waits.new v false ≡ waits_for ends.now out.now v }
 {
     waits.fill(false);
     for (source, target) in ends {
-        if !out[source.0 as usize] {
-            waits[target.0 as usize] = true;
-        }
+        waits[target.0 as usize] |= !out[source.0 as usize];
     }
 }
 
@@ -73,11 +71,11 @@ fn lengthen(ends: &[(VertexId, VertexId)], known: &[u32], longer: &mut [u32])
     requires inside { AllWithin (length known.now) ends.now }
     requires as_many { length longer.old ≡ length known.now }
     requires short { All (λ n. n < 2 ^ 32 - 1) known.now }
-    ensures { (v : ℕ) → v < length longer.new → slice_get longer.new v ≡ Some (longest_into ends.now known.now v) }
+    ensures { (v : ℕ) → v < length longer.new → get_or longer.new v 0 ≡ longest_into ends.now known.now v }
 {
     longer.fill(0);
     for (source, target) in ends {
-        let length = known[source.0 as usize] + 1;
+        let length = 1 + known[source.0 as usize];
         let so_far = longer[target.0 as usize];
         longer[target.0 as usize] = so_far.max(length);
     }
