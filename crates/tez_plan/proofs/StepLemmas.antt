@@ -17,8 +17,8 @@ use Rattle.tez_lists.proofs.Cases.{cases, both}
 use Rattle.tez_ids.specs.declared.VertexId.{VertexId}
 use Rattle.tez_plan.specs.declared.parts.EdgeSpec.{EdgeSpec}
 use Rattle.tez_plan.specs.Dag.{Dag, from, to, ends_of, vertex, edges_into}
-use Rattle.tez_plan.specs.Graph.{AreInside, waits_for, longest_into}
-use Rattle.tez_plan.specs.Order.{among, sources_of, is_ready}
+use Rattle.tez_plan.specs.Graph.{AllWithin, AreInside, waits_for, longest_into}
+use Rattle.tez_plan.specs.Order.{among, vertex_numbers, sources_of, is_ready, and_then, after, topo, by_sources, one_longer}
 
 abbrev Ends : Type 0
 Ends = VertexId × VertexId
@@ -185,3 +185,65 @@ table_from f a (x ∷ xs) h =
 
 pub table_is : (f : ℕ → ℕ) (n : ℕ) (xs : List ℕ) → length xs ≡ n → ((i : ℕ) → i < n → get_or xs i 0 ≡ f i) → xs ≡ map f (range_with_len 0 n)
 table_is f n xs same h = table_from f 0 xs (λ i below. h i (omega arith) ∙ ap f (omega arith)) ∙ ap (λ k. map f (range_with_len 0 k)) same
+
+pub within : (p : Dag) (es : List EdgeSpec) → AllByRecursion (AreInside p) es → AllWithin (length p.vertices) (map (ends_of p) es)
+within p [] all k d below = absurd (omega arith)
+within p (e ∷ es) all zero d below = all.0
+within p (e ∷ es) all (suc k) d below = within p es all.1 k d (omega arith)
+
+-- ---- rounds
+
+after_same : (n : ℕ) (p : Dag) (a b : List ℕ) → ((v : ℕ) → among a v ≡ among b v) → after n p a ≡ after n p b
+after_same zero p a b h = refl
+after_same (suc n) p a b h =
+    ap (λ f. and_then (find (λ v. not (f v) && list_all f (sources_of p v)) (vertex_numbers p)) (λ v. after n p (v ∷ a))) (λ i v. h v i)
+    ∙ ap (and_then (find (is_ready p b) (vertex_numbers p))) (λ i v. after_same n p (v ∷ a) (v ∷ b) (λ w. ap (λ x. (v == w) || x) (h w)) i)
+
+among_last : (o : List ℕ) (v w : ℕ) → among (v ∷ o) w ≡ among (o ++ v ∷ []) w
+among_last [] v w = refl
+among_last (u ∷ o) v w = swapped (v == w) (u == w) (among o w) ∙ ap (λ b. (u == w) || b) (among_last o v w)
+  where
+    swapped : (a b c : Bool) → (a || (b || c)) ≡ (b || (a || c))
+    swapped true true c = refl
+    swapped true false c = refl
+    swapped false b c = refl
+
+pub one_more : (p : Dag) (n k v : ℕ) (o : List ℕ) → k < n → find (is_ready p o) (vertex_numbers p) ≡ Some v → topo p ≡ o ++ after (n - k) p o → topo p ≡ (o ++ v ∷ []) ++ after (n - (k + 1)) p (o ++ v ∷ [])
+one_more p n k v o below found h =
+    let left : n - k ≡ suc (n - (k + 1)) = omega arith in
+    h
+    ∙ ap (λ m. o ++ after m p o) left
+    ∙ ap (λ f. o ++ and_then f (λ w. after (n - (k + 1)) p (w ∷ o))) found
+    ∙ ap (λ vs. o ++ v ∷ vs) (after_same (n - (k + 1)) p (v ∷ o) (o ++ v ∷ []) (among_last o v))
+    ∙ sym (append_assoc o (v ∷ []) (after (n - (k + 1)) p (o ++ v ∷ [])))
+
+pub no_more : (p : Dag) (n k : ℕ) (o : List ℕ) → k < n → find (is_ready p o) (vertex_numbers p) ≡ None → topo p ≡ o ++ after (n - k) p o → topo p ≡ o ++ after (n - (k + 1)) p o
+no_more p n k o below none h =
+    let left : n - k ≡ suc (n - (k + 1)) = omega arith in
+    h
+    ∙ ap (λ m. o ++ after m p o) left
+    ∙ ap (λ f. o ++ and_then f (λ w. after (n - (k + 1)) p (w ∷ o))) none
+    ∙ ap (λ vs. o ++ vs) (sym (nothing (n - (k + 1))))
+  where
+    nothing : (m : ℕ) → after m p o ≡ []
+    nothing zero = refl
+    nothing (suc m) = ap (λ f. and_then f (λ w. after m p (w ∷ o))) none
+
+pub marks_more : (out : List Bool) (o : List ℕ) (n v : ℕ) → length out ≡ n → v < n → ((u : ℕ) → u < n → get_or out u false ≡ among o u) → (u : ℕ) → u < n → get_or (set out v true) u false ≡ among (o ++ v ∷ []) u
+marks_more out o n v same inside h u below =
+    set_test out v u true false (omega arith)
+    ∙ ap (λ b. cond (v == u) true b) (h u below)
+    ∙ either (v == u) (among o u)
+    ∙ among_last o v u
+  where
+    either : (a b : Bool) → cond a true b ≡ (a || b)
+    either true b = refl
+    either false b = refl
+
+greatest-le : (f : ℕ → ℕ) (k : ℕ) (a : ℕ) (us : List ℕ) → ((u : ℕ) → f u ≤ k) → a ≤ k + 1 → fold max a (map (λ u. 1 + f u) us) ≤ k + 1
+greatest-le f k a [] h below = below
+greatest-le f k a (u ∷ us) h below = let here : f u ≤ k = h u in greatest-le f k (max a (1 + f u)) us h (omega arith)
+
+pub by_sources-le : (p : Dag) (k v : ℕ) → by_sources 0 (one_longer p) k v ≤ k
+by_sources-le p zero v = omega arith
+by_sources-le p (suc k) v = let most = greatest-le (by_sources 0 (one_longer p) k) k 0 (sources_of p v) (by_sources-le p k) (omega arith) in omega arith

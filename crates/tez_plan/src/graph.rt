@@ -4,7 +4,7 @@ ghost use Rattle.std.specs.Str.{bytes_eq};
 ghost use Rattle.tez_plan.specs.declared.fault.PlanFault.TheVariants.{NoMemory, TooMany, DuplicateName, UnknownName};
 ghost use Rattle.tez_plan.specs.Dag.{dag_of, ends_of, vertex, edge};
 ghost use Rattle.tez_plan.specs.Faults.{Passes, IsFirstFault, IsNowhere, IsFirstWhere, Finds, too_many_parts, duplicate_name, unknown_name};
-ghost use Rattle.tez_plan.specs.Graph.{AreInside, ends_among, unknown_among};
+ghost use Rattle.tez_plan.specs.Graph.{AllWithin, AreInside, ends_among, unknown_among};
 
 use crate::fault::PlanFault;
 use crate::parts::{EdgeSpec, VertexSpec};
@@ -84,6 +84,7 @@ impl Graph {
     pub fn ends(&self) -> &[(VertexId, VertexId)]
         ensures same { result.now ≡ map (ends_of self.now) self.now.edges }
         ensures inside { AllByRecursion (AreInside self.now) self.now.edges }
+        ensures within { AllWithin (length self.now.vertices) result.now }
         ensures few { length result.now ≤ 256 }
     {
         self.ends.as_slice()

@@ -1,7 +1,7 @@
-ghost use Rattle.std.specs.Prelude.{◌≡◌, ◌≤◌, ◌<◌, ◌+◌, ◌&&◌, ◌==◌, ◌^◌, ◌-◌, ℕ, false, not, length, map, max, slice_index_or as get_or, IfOk, IfErr, OnOk};
-ghost use Rattle.std.specs.List.{list_any, position, fold, filter, zip, All};
+ghost use Rattle.std.specs.Prelude.{◌≡◌, ◌≤◌, ◌<◌, ◌+◌, ◌&&◌, ◌==◌, ◌^◌, ◌-◌, ℕ, false, List, not, length, map, All, slice_index_or as get_or, IfOk, IfErr, IfSome, OnOk};
+ghost use Rattle.std.specs.List.{find, position, zip};
 ghost use Rattle.tez_plan.specs.Dag.{vertex};
-ghost use Rattle.tez_plan.specs.Order.{topo, depth, vertex_numbers};
+ghost use Rattle.tez_plan.specs.Order.{among, is_ready, topo, depth, vertex_numbers};
 ghost use Rattle.tez_plan.specs.Faults.{Passes, IsFirstFault};
 ghost use Rattle.tez_plan.specs.Graph.{waits_for, longest_into, AllWithin};
 
@@ -21,13 +21,23 @@ impl Graph {
         let mut out = vec![in alloc; false; count]?;
         let mut waits = vec![in alloc; false; count]?;
         for _ in 0..count {
-            mark_waiting(self.ends(), &out, &mut waits);
-            if let Some(v) = first_ready(&out, &waits) {
+            if let Some(v) = self.next_ready(&out, &mut waits) {
                 order.push(VertexId(v as u16))?;
                 out[v] = true;
             }
         }
         Ok(order)
+    }
+
+    /// The least vertex that is not out and whose predecessors are. What `waits` held is lost.
+    fn next_ready(&self, out: &[bool], waits: &mut [bool]) -> Option<usize>
+        requires out { length out.now ≡ length self.now.vertices }
+        requires waits { length waits.old ≡ length self.now.vertices }
+        ensures first { (o : List ℕ) → ((u : ℕ) → u < length self.now.vertices → get_or out.now u false ≡ among o u) → result ≡ find (is_ready self.now o) (vertex_numbers self.now) }
+        ensures within { IfSome result (λ v. v < length self.now.vertices) }
+    {
+        mark_waiting(self.ends(), out, waits);
+        first_ready(out, waits)
     }
 
     /// The length of the longest path to each vertex.
@@ -59,7 +69,8 @@ fn mark_waiting(ends: &[(VertexId, VertexId)], out: &[bool], waits: &mut [bool])
 
 /// The first vertex that is not out and waits for none.
 fn first_ready(out: &[bool], waits: &[bool]) -> Option<usize>
-    ensures { result ≡ position (λ q. not q.0 && not q.1) (zip out.now waits.now) }
+    ensures first { result ≡ position (λ q. not q.0 && not q.1) (zip out.now waits.now) }
+    ensures within { IfSome result (λ v. v < length out.now) }
 {
     out.iter()
         .zip(waits.iter())
