@@ -1,4 +1,4 @@
-ghost use Rattle.std.specs.Prelude.{◌≡◌, ◌≤◌, ◌+◌, length, not, ◌&&◌, ◌==◌, nat_lt};
+ghost use Rattle.std.specs.Prelude.{◌≡◌, ◌≤◌, ◌+◌, ◌-◌, ◌^◌, ◌<◌, length, not, ◌&&◌, ◌==◌, nat_lt};
 ghost use Rattle.std.specs.List.{list_all, list_any, count_by, filter, zip};
 ghost use Rattle.std.specs.Option.{option_map_or};
 ghost use Rattle.std.specs.Str.{bytes_eq};
@@ -173,7 +173,8 @@ impl Graph {
     /// The physical inputs of an edge.
     pub fn physical_inputs(&self, edge: &EdgeSpec, ends: &(VertexId, VertexId)) -> u64
         requires { ends.now ≡ ends_of self.now edge.now }
-        ensures { result ≡ physical_inputs self.now edge.now }
+        ensures inputs { result ≡ physical_inputs self.now edge.now }
+        ensures small { result < 2 ^ 64 - 2 ^ 32 }
     {
         let consumers = self.tasks(ends.1) as u64;
         if edge.movement.is_one_to_one() {

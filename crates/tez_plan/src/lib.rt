@@ -3,6 +3,7 @@
 
 mod check;
 mod fault;
+mod faults;
 mod graph;
 mod order;
 mod parts;
