@@ -12,7 +12,6 @@ use Rattle.tez_plan.specs.declared.parts.Head.{Head}
 use Rattle.tez_plan.specs.declared.parts.Head.TheVariants.{Each, Sum, Count, Distinct, Join, Lookup, KeepIn, DropIn}
 use Rattle.tez_plan.specs.declared.fault.PlanFault.{PlanFault}
 use Rattle.tez_plan.specs.declared.fault.PlanFault.TheVariants.{TooMany, DuplicateName, UnknownName, DuplicateEdge, Cycle, NoPrimary, MixedPrimary, HeadInputs, KeyDiffers, PartitionsDiffer, LeafWithoutSink, DuplicateSink, NoMemory}
-use Rattle.tez_plan.specs.Ranges.{IsInRanges}
 use Rattle.tez_plan.specs.Dag.{Dag, from, to, edges_into, edges_from, IsEdge, tasks_of, vertex, edge, is_one_to_one, is_broadcast, is_scatter_gather, keys_of}
 
 -- the test of the vertex or edge of this number, and false where there is none
@@ -177,8 +176,3 @@ FirstPass (suc n) (c ∷ cs) = FailsNowhere c × FirstPass n cs
 
 unfoldable pub Passes : ℕ → Dag → Type 0
 Passes n p = FirstPass n (checks p)
-
--- what the type of a plan keeps
-pub record IsSound (p : Dag) : Type 0 where
-  pub in_ranges : IsInRanges p
-  pub valid : IsValid p

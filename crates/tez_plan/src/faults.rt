@@ -1,9 +1,9 @@
-ghost use Rattle.std.specs.Prelude.{◌≡◌, ◌≢◌, ◌==◌, [], ◌<◌, ◌≤◌, ℕ, true, false, not, map, length, IfErr, IfSome, OnOk};
+ghost use Rattle.std.specs.Prelude.{◌≡◌, ◌≢◌, ◌==◌, [], ◌<◌, ◌≤◌, ℕ, true, false, not, map, length, IfErr, IfOk, IfSome, OnOk};
 ghost use Rattle.std.specs.List.{find, list_any, range_with_len};
 ghost use Rattle.tez_plan.specs.declared.fault.PlanFault.TheVariants.{NoMemory, DuplicateEdge, DuplicateSink};
 ghost use Rattle.tez_plan.specs.Dag.{dag_of, vertex, edge};
 ghost use Rattle.tez_plan.specs.Order.{among, topo, vertex_numbers};
-ghost use Rattle.tez_plan.specs.Faults.{IsFirstFault, IsNowhere, Finds, Passes, no_primary, mixed_primary, head_inputs, key_differs, partitions_differ, leaf_without_sink, duplicate_sink};
+ghost use Rattle.tez_plan.specs.Faults.{IsFirstFault, IsNowhere, IsValid, Finds, Passes, no_primary, mixed_primary, head_inputs, key_differs, partitions_differ, leaf_without_sink, duplicate_sink};
 ghost use Rattle.tez_plan.specs.Graph.{ends_again};
 
 use crate::fault::PlanFault;
@@ -14,8 +14,48 @@ use std::alloc::Global;
 use tez_ids::{EdgeId, VertexId};
 
 impl Graph {
+    /// The order of the vertices, or the first fault after those that `Graph::new` refuses.
+    pub fn checked(&self, alloc: Global) -> Result<Vec<VertexId>, PlanFault>
+        requires { Passes 3 self.now }
+        ensures order { IfOk result (λ order. order.items ≡ map vertex (topo self.now)) }
+        ensures valid { OnOk result (IsValid self.now) }
+        ensures fault { IfErr result (λ f. f ≢ NoMemory → IsFirstFault self.now f) }
+    {
+        if let Err(fault) = self.check_pairs(alloc) {
+            return Err(fault);
+        }
+        let Ok(order) = self.order(alloc) else {
+            return Err(PlanFault::NoMemory);
+        };
+        if let Err(fault) = self.check_cycles(&order) {
+            return Err(fault);
+        }
+        if let Err(fault) = self.check_parts(alloc) {
+            return Err(fault);
+        }
+        Ok(order)
+    }
+
+    /// The checks of the vertices and edges of a plan without a cycle.
+    fn check_parts(&self, alloc: Global) -> Result<(), PlanFault>
+        requires { Passes 5 self.now }
+        ensures valid { OnOk result (IsValid self.now) }
+        ensures fault { IfErr result (λ f. f ≢ NoMemory → IsFirstFault self.now f) }
+    {
+        if let Err(fault) = self.check_inputs() {
+            return Err(fault);
+        }
+        if let Err(fault) = self.check_outputs() {
+            return Err(fault);
+        }
+        if let Err(fault) = self.check_sinks(alloc) {
+            return Err(fault);
+        }
+        self.check_total()
+    }
+
     /// Refuses an edge with the ends of an earlier one.
-    pub fn check_pairs(&self, alloc: Global) -> Result<(), PlanFault>
+    fn check_pairs(&self, alloc: Global) -> Result<(), PlanFault>
         requires { Passes 3 self.now }
         ensures passes { OnOk result (Passes 4 self.now) }
         ensures fault { IfErr result (λ f. f ≢ NoMemory → IsFirstFault self.now f) }
@@ -24,7 +64,7 @@ impl Graph {
     }
 
     /// Refuses a cycle. `order` has the vertices that are on none and behind none.
-    pub fn check_cycles(&self, order: &[VertexId]) -> Result<(), PlanFault>
+    fn check_cycles(&self, order: &[VertexId]) -> Result<(), PlanFault>
         requires passes { Passes 4 self.now }
         requires order { order.now ≡ map vertex (topo self.now) }
         ensures passes { OnOk result (Passes 5 self.now) }
@@ -39,7 +79,7 @@ impl Graph {
     }
 
     /// Refuses inputs that do not fit the heads.
-    pub fn check_inputs(&self) -> Result<(), PlanFault>
+    fn check_inputs(&self) -> Result<(), PlanFault>
         requires { Passes 5 self.now }
         ensures passes { OnOk result (Passes 9 self.now) }
         ensures fault { IfErr result (λ f. f ≢ NoMemory → IsFirstFault self.now f) }
@@ -64,7 +104,7 @@ impl Graph {
     }
 
     /// Refuses what the outputs lack.
-    pub fn check_outputs(&self) -> Result<(), PlanFault>
+    fn check_outputs(&self) -> Result<(), PlanFault>
         requires { Passes 9 self.now }
         ensures passes { OnOk result (Passes 11 self.now) }
         ensures fault { IfErr result (λ f. f ≢ NoMemory → IsFirstFault self.now f) }
@@ -122,8 +162,8 @@ impl Graph {
         (0..self.vertices().len()).find(|n| self.leaf_without_sink(*n))
     }
 
-    /// Refuses a sink that comes again, and too many physical inputs.
-    pub fn check_sinks(&self, alloc: Global) -> Result<(), PlanFault>
+    /// Refuses a sink that comes again.
+    fn check_sinks(&self, alloc: Global) -> Result<(), PlanFault>
         requires { Passes 11 self.now }
         ensures passes { OnOk result (Passes 12 self.now) }
         ensures fault { IfErr result (λ f. f ≢ NoMemory → IsFirstFault self.now f) }
@@ -133,7 +173,7 @@ impl Graph {
     }
 
     /// Refuses too many physical inputs.
-    pub fn check_total(&self) -> Result<(), PlanFault>
+    fn check_total(&self) -> Result<(), PlanFault>
         requires { Passes 12 self.now }
         ensures passes { OnOk result (Passes 13 self.now) }
         ensures fault { IfErr result (λ f. f ≢ NoMemory → IsFirstFault self.now f) }

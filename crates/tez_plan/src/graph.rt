@@ -6,6 +6,7 @@ ghost use Rattle.tez_plan.specs.Dag.{dag_of, ends_of, vertex, edge};
 ghost use Rattle.tez_plan.specs.Faults.{Passes, IsFirstFault, IsNowhere, IsFirstWhere, Finds, too_many_parts, duplicate_name, unknown_name};
 ghost use Rattle.tez_plan.specs.Graph.{AllWithin, AreInside, ends_among, unknown_among};
 
+use crate::copies::{copy_edges, copy_vertices};
 use crate::fault::PlanFault;
 use crate::parts::{EdgeSpec, VertexSpec};
 use indexmap::IndexSet;
@@ -58,6 +59,18 @@ impl Graph {
                 ends,
             }),
         }
+    }
+
+    /// An equal graph. Takes memory for all of it.
+    pub fn copy(&self, alloc: Global) -> Result<Self, AllocError>
+        ensures { IfOk result (λ copy. copy ≡ self.now) }
+    {
+        Ok(Graph {
+            name: Name::copy_of(alloc, self.name.as_str())?,
+            vertices: copy_vertices(alloc, &self.vertices)?,
+            edges: copy_edges(alloc, &self.edges)?,
+            ends: Vec::from_slice(alloc, &self.ends)?,
+        })
     }
 
     pub fn name(&self) -> &Name
