@@ -2,20 +2,17 @@
 --     checks p               each fault and where it stands, the first to be looked for first
 --     IsFirstFault p f       f is the fault that is answered
 --     IsValid p              no check fails anywhere
-use Rattle.std.specs.Prelude.{◌≡◌, ◌⊎◌, ℕ, ◌+◌, ◌*◌, ◌<◌, min, Bool, true, false, not, ◌&&◌, ◌||◌, ◌==◌, nat_lt, List, [], ◌∷◌, length, take, IsTrue, slice_get, is_none, ⊤, if◌then◌else◌}
+use Rattle.std.specs.Prelude.{◌≡◌, ◌≢◌, ◌⊎◌, ℕ, zero, suc, ◌+◌, ◌*◌, ◌<◌, min, Bool, true, false, not, ◌&&◌, ◌||◌, ◌==◌, nat_lt, List, [], ◌∷◌, length, take, IsTrue, slice_get, is_none, ⊤, if◌then◌else◌}
 use Rattle.std.specs.List.{filter, list_any, list_all, sum_by}
 use Rattle.std.specs.Option.{option_map_or}
 use Rattle.std.specs.Str.{bytes_eq}
-use Rattle.tez_ids.specs.declared.VertexId.{VertexId}
-use Rattle.tez_ids.specs.declared.EdgeId.{EdgeId}
 use Rattle.tez_plan.specs.declared.parts.VertexSpec.{VertexSpec}
 use Rattle.tez_plan.specs.declared.parts.EdgeSpec.{EdgeSpec}
 use Rattle.tez_plan.specs.declared.parts.Head.{Head}
 use Rattle.tez_plan.specs.declared.parts.Head.TheVariants.{Each, Sum, Count, Distinct, Join, Lookup, KeepIn, DropIn}
 use Rattle.tez_plan.specs.declared.fault.PlanFault.{PlanFault}
-use Rattle.tez_plan.specs.declared.fault.PlanFault.TheVariants.{TooMany, DuplicateName, UnknownName, DuplicateEdge, Cycle, NoPrimary, MixedPrimary, HeadInputs, KeyDiffers, PartitionsDiffer, LeafWithoutSink, DuplicateSink}
-use Rattle.tez_plan.specs.Ranges.{IsInRanges}
-use Rattle.tez_plan.specs.Dag.{Dag, from, to, edges_into, edges_from, IsEdge, tasks_of, is_one_to_one, is_broadcast, is_scatter_gather, keys_of}
+use Rattle.tez_plan.specs.declared.fault.PlanFault.TheVariants.{TooMany, DuplicateName, UnknownName, DuplicateEdge, Cycle, NoPrimary, MixedPrimary, HeadInputs, KeyDiffers, PartitionsDiffer, LeafWithoutSink, DuplicateSink, NoMemory}
+use Rattle.tez_plan.specs.Dag.{Dag, from, to, edges_into, edges_from, IsEdge, tasks_of, vertex, edge, is_one_to_one, is_broadcast, is_scatter_gather, keys_of}
 
 -- the test of the vertex or edge of this number, and false where there is none
 abbrev pub at_vertex : Dag → ℕ → (VertexSpec → Bool) → Bool
@@ -29,10 +26,10 @@ abbrev pub too_many_parts : Dag → ℕ → Bool
 too_many_parts p place = (place == 64 && nat_lt 64 (length p.vertices)) || (place == 256 && nat_lt 256 (length p.edges))
 
 abbrev pub duplicate_name : Dag → ℕ → Bool
-duplicate_name p v = at_vertex p v (λ s. list_any (λ t. bytes_eq t.name s.name) (take v p.vertices))
+duplicate_name p v = at_vertex p v (λ s. list_any (λ t. bytes_eq s.name t.name) (take v p.vertices))
 
 abbrev pub is_known : Dag → List ℕ → Bool
-is_known p name = list_any (λ s. bytes_eq s.name name) p.vertices
+is_known p name = list_any (λ s. bytes_eq name s.name) p.vertices
 
 abbrev pub unknown_name : Dag → ℕ → Bool
 unknown_name p e = at_edge p e (λ s. not (is_known p s.source && is_known p s.target))
@@ -42,7 +39,7 @@ abbrev pub AllKnown : Dag → Type 0
 AllKnown p = (e : ℕ) → ¬ IsTrue (unknown_name p e)
 
 abbrev pub duplicate_edge : Dag → ℕ → Bool
-duplicate_edge p e = at_edge p e (λ s. list_any (λ t. bytes_eq t.source s.source && bytes_eq t.target s.target) (take e p.edges))
+duplicate_edge p e = at_edge p e (λ s. list_any (λ t. from p s == from p t && to p s == to p t) (take e p.edges))
 
 -- v is on a cycle or behind one: it belongs to vertices each of which has a predecessor among them
 pub record IsBehindCycle (p : Dag) (v : ℕ) : Type 0 where
@@ -70,7 +67,7 @@ inputs_fit Each gathers sides = sides == 0
 inputs_fit (Sum value) gathers sides = sides == 0
 inputs_fit Count gathers sides = sides == 0
 inputs_fit Distinct gathers sides = sides == 0
-inputs_fit (Join left) gathers sides = sides == 0 && length gathers == 2 && list_any (λ e. bytes_eq e.source left) gathers
+inputs_fit (Join left) gathers sides = sides == 0 && length gathers == 2 && list_any (λ e. bytes_eq left e.source) gathers
 inputs_fit (Lookup key side_key) gathers sides = sides == 1
 inputs_fit (KeepIn key side_key) gathers sides = sides == 1
 inputs_fit (DropIn key side_key) gathers sides = sides == 1
@@ -102,7 +99,7 @@ abbrev pub leaf_without_sink : Dag → ℕ → Bool
 leaf_without_sink p v = at_vertex p v (λ s. length (edges_from p v) == 0 && is_none s.sink)
 
 abbrev pub has_sink : List ℕ → VertexSpec → Bool
-has_sink name s = option_map_or (λ sink. bytes_eq sink name) s.sink false
+has_sink name s = option_map_or (bytes_eq name) s.sink false
 
 abbrev pub duplicate_sink : Dag → ℕ → Bool
 duplicate_sink p v = at_vertex p v (λ s. option_map_or (λ sink. list_any (has_sink sink) (take v p.vertices)) s.sink false)
@@ -118,12 +115,6 @@ too_many_inputs p e = at_edge p e (λ _. nat_lt 4000000 (sum_by (physical_inputs
 pub record Check : Type 1 where
   pub fault : ℕ → PlanFault
   pub fails : ℕ → Type 0
-
-abbrev pub vertex : ℕ → VertexId
-vertex v = record { 0 = v }
-
-abbrev pub edge : ℕ → EdgeId
-edge e = record { 0 = e }
 
 unfoldable pub checks : Dag → List Check
 checks p =
@@ -165,7 +156,23 @@ IsFirstFault p f = IsFirstOf (checks p) f
 unfoldable pub IsValid : Dag → Type 0
 IsValid p = PassesAll (checks p)
 
--- what the type of a plan keeps
-pub record IsSound (p : Dag) : Type 0 where
-  pub in_ranges : IsInRanges p
-  pub valid : IsValid p
+-- a test passes nowhere; it passes at n first
+abbrev pub IsNowhere : (ℕ → Bool) → Type 0
+IsNowhere test = (n : ℕ) → test n ≡ false
+
+pub record IsFirstWhere (test : ℕ → Bool) (n : ℕ) : Type 0 where
+  pub there : test n ≡ true
+  pub before : (m : ℕ) → m < n → test m ≡ false
+
+-- the fault stands where the test passes first, if it is not want of memory
+abbrev pub Finds : (ℕ → Bool) → (ℕ → PlanFault) → PlanFault → Type 0
+Finds test fault f = f ≢ NoMemory → (n : ℕ) × IsFirstWhere test n × (f ≡ fault n)
+
+-- the first n checks fail nowhere
+abbrev pub FirstPass : ℕ → List Check → Type 0
+FirstPass zero cs = ⊤
+FirstPass (suc n) [] = ⊤
+FirstPass (suc n) (c ∷ cs) = FailsNowhere c × FirstPass n cs
+
+unfoldable pub Passes : ℕ → Dag → Type 0
+Passes n p = FirstPass n (checks p)

@@ -37,8 +37,12 @@ abbrev pub by_sources : {X : Type 0} → X → (ℕ → (ℕ → X) → X) → �
 by_sources none step zero v = none
 by_sources none step (suc n) v = step v (by_sources none step n)
 
+-- one more than the greatest that is known of the sources, and 0 where there is none
+abbrev pub one_longer : Dag → ℕ → (ℕ → ℕ) → ℕ
+one_longer p v known = fold max 0 (map (λ u. 1 + known u) (sources_of p v))
+
 unfoldable pub depth : Dag → ℕ → ℕ
-depth p = by_sources 0 (λ v known. fold max 0 (map (λ u. 1 + known u) (sources_of p v))) (length p.vertices)
+depth p = by_sources 0 (one_longer p) (length p.vertices)
 
 -- some path of n edges ends at v
 abbrev pub EndsPath : Dag → ℕ → ℕ → Type 0

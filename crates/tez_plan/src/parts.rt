@@ -1,11 +1,12 @@
 ghost use Rattle.std.specs.Prelude.{◌≡◌, IfOk};
+ghost use Rattle.tez_plan.specs.Dag.{goes_one_to_one, goes_to_all, goes_by_key, columns};
 
 use std::alloc::{AllocError, Global};
 use std::marker::Model;
 use tez_ids::{Bytes, Name};
 
 /// Columns of records, counted from 0, of which contracts see the list.
-#[derive(Debug, Drop)]
+#[derive(Drop)]
 pub struct Columns {
     items: Vec<u16>,
 }
@@ -39,7 +40,7 @@ impl Columns {
 }
 
 /// What a filter asks of a field. `Lt` and `Gt` compare numbers, the others bytes.
-#[derive(Debug, Drop)]
+#[derive(Drop)]
 pub enum Test {
     Eq(Bytes),
     Ne(Bytes),
@@ -49,7 +50,7 @@ pub enum Test {
 }
 
 /// One step of a program, done on each record. Fields are counted from 0.
-#[derive(Debug, Drop)]
+#[derive(Drop)]
 pub enum Step {
     /// The words of the record, each with the count 1.
     Tokenise,
@@ -60,7 +61,7 @@ pub enum Step {
 }
 
 /// Steps in order, of which contracts see the list.
-#[derive(Debug, Drop)]
+#[derive(Drop)]
 pub struct Steps {
     items: Vec<Step>,
 }
@@ -95,7 +96,7 @@ impl Steps {
 }
 
 /// What a vertex makes of its inputs before the steps.
-#[derive(Debug, Drop)]
+#[derive(Drop)]
 pub enum Head {
     /// The primary records.
     Each,
@@ -116,14 +117,14 @@ pub enum Head {
 }
 
 /// A head and the steps after it.
-#[derive(Debug, Drop)]
+#[derive(Drop)]
 pub struct Program {
     pub head: Head,
     pub steps: Steps,
 }
 
 /// How an edge moves data.
-#[derive(Debug, Drop)]
+#[derive(Drop)]
 pub enum Movement {
     /// Task i of the source feeds task i of the target.
     OneToOne,
@@ -133,8 +134,38 @@ pub enum Movement {
     ScatterGather { keys: Columns },
 }
 
+impl Movement {
+    pub fn is_one_to_one(&self) -> bool
+        ensures { result ≡ goes_one_to_one self.now }
+    {
+        matches!(self, Movement::OneToOne)
+    }
+
+    pub fn is_broadcast(&self) -> bool
+        ensures { result ≡ goes_to_all self.now }
+    {
+        matches!(self, Movement::Broadcast)
+    }
+
+    pub fn is_scatter_gather(&self) -> bool
+        ensures { result ≡ goes_by_key self.now }
+    {
+        matches!(self, Movement::ScatterGather { .. })
+    }
+
+    /// The columns of the key, and none where the edge does not go by key.
+    pub fn keys(&self) -> &[u16]
+        ensures { result.now ≡ columns self.now }
+    {
+        match self {
+            Movement::ScatterGather { keys } => keys.as_slice(),
+            Movement::OneToOne | Movement::Broadcast => &[],
+        }
+    }
+}
+
 /// A vertex of a plan.
-#[derive(Debug, Drop)]
+#[derive(Drop)]
 pub struct VertexSpec {
     pub name: Name,
     /// The number of tasks, and of partitions where a scatter-gather edge leads in.
@@ -148,7 +179,7 @@ pub struct VertexSpec {
 }
 
 /// An edge of a plan, from the vertex named `source` to the vertex named `target`.
-#[derive(Debug, Drop)]
+#[derive(Drop)]
 pub struct EdgeSpec {
     pub source: Name,
     pub target: Name,
