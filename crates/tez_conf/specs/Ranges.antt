@@ -1,7 +1,7 @@
 -- The ranges of the values of a configuration.
 --     IsInRange c       each value is in its range
 --     first_fault c     the first range that is broken, in the order in which the ranges are looked at
-use Rattle.std.specs.Prelude.{ℕ, ◌*◌, ◌≤◌, Bool, not, ◌&&◌, nat_le, nat_lt, List, [], ◌∷◌, Option}
+use Rattle.std.specs.Prelude.{ℕ, ◌*◌, ◌≤◌, Bool, not, ◌&&◌, nat_le, List, [], ◌∷◌, Option}
 use Rattle.std.specs.List.{find}
 use Rattle.std.specs.Option.{option_map}
 use Rattle.tez_conf.specs.declared.values.ConfValues.{ConfValues}

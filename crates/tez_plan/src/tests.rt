@@ -118,240 +118,242 @@ fn plan_of(
     Ok(plan_new(alloc, name, vertex_specs, edge_specs))
 }
 
+/// Plans, and the fault that each is answered, if any.
+static PLANS: [(&[Vertex], &[Edge], Option<PlanFault>); 27] = [
+    // one vertex, a count of words, a lookup, a join
+    (&[("a", 1, "f", Makes::Each, "s")], &[], None),
+    (
+        &[
+            ("a", 2, "f", Makes::Each, ""),
+            ("b", 2, "", Makes::Sum, "s"),
+        ],
+        &[("a", "b", Moves::By(&[0]))],
+        None,
+    ),
+    (
+        &[
+            ("a", 2, "f", Makes::Lookup(&[1], &[0]), "s"),
+            ("b", 3, "g", Makes::Each, ""),
+        ],
+        &[("b", "a", Moves::All)],
+        None,
+    ),
+    (
+        &[
+            ("a", 1, "f", Makes::Each, ""),
+            ("b", 1, "g", Makes::Each, ""),
+            ("c", 2, "", Makes::Join("b"), "s"),
+        ],
+        &[("a", "c", Moves::By(&[0])), ("b", "c", Moves::By(&[1]))],
+        None,
+    ),
+    // a name twice, also where an edge names no vertex
+    (
+        &[
+            ("a", 1, "f", Makes::Each, "s"),
+            ("a", 1, "f", Makes::Each, "t"),
+        ],
+        &[("a", "x", Moves::One)],
+        Some(PlanFault::DuplicateName { vertex: B }),
+    ),
+    // a name that is no vertex's, at either end
+    (
+        &[("a", 1, "f", Makes::Each, "s")],
+        &[("x", "a", Moves::All)],
+        Some(PlanFault::UnknownName { edge: EdgeId(0) }),
+    ),
+    (
+        &[
+            ("a", 1, "f", Makes::Each, "s"),
+            ("b", 1, "", Makes::Each, "t"),
+        ],
+        &[("a", "b", Moves::One), ("a", "x", Moves::One)],
+        Some(PlanFault::UnknownName { edge: EdgeId(1) }),
+    ),
+    // the same ends twice
+    (
+        &[
+            ("a", 2, "f", Makes::Each, ""),
+            ("b", 2, "", Makes::Sum, "s"),
+        ],
+        &[("a", "b", Moves::By(&[0])), ("a", "b", Moves::By(&[1]))],
+        Some(PlanFault::DuplicateEdge { edge: EdgeId(1) }),
+    ),
+    // both ways, and what is behind a cycle
+    (
+        &[("a", 1, "", Makes::Each, ""), ("b", 1, "", Makes::Each, "")],
+        &[("a", "b", Moves::One), ("b", "a", Moves::One)],
+        Some(PlanFault::Cycle { vertex: A }),
+    ),
+    (
+        &[
+            ("a", 1, "f", Makes::Each, ""),
+            ("b", 1, "", Makes::Each, "s"),
+            ("c", 1, "", Makes::Sum, ""),
+        ],
+        &[("c", "c", Moves::By(&[0])), ("c", "b", Moves::One)],
+        Some(PlanFault::Cycle { vertex: B }),
+    ),
+    // nothing to work on: the first such vertex, before a vertex with two sources of work
+    (
+        &[
+            ("a", 1, "", Makes::Each, "s"),
+            ("b", 1, "", Makes::Each, "t"),
+        ],
+        &[],
+        Some(PlanFault::NoPrimary { vertex: A }),
+    ),
+    (
+        &[
+            ("a", 1, "f", Makes::Each, ""),
+            ("b", 1, "g", Makes::Each, "s"),
+            ("c", 1, "", Makes::Each, "t"),
+        ],
+        &[("a", "b", Moves::One)],
+        Some(PlanFault::NoPrimary { vertex: C }),
+    ),
+    // a source and an edge, two one-to-one edges, two kinds of edges
+    (
+        &[
+            ("a", 1, "f", Makes::Each, ""),
+            ("b", 1, "g", Makes::Each, "s"),
+        ],
+        &[("a", "b", Moves::One)],
+        Some(PlanFault::MixedPrimary { vertex: B }),
+    ),
+    (
+        &[
+            ("a", 1, "f", Makes::Each, ""),
+            ("b", 1, "g", Makes::Each, ""),
+            ("c", 1, "", Makes::Each, "s"),
+        ],
+        &[("a", "c", Moves::One), ("b", "c", Moves::One)],
+        Some(PlanFault::MixedPrimary { vertex: C }),
+    ),
+    (
+        &[
+            ("a", 1, "f", Makes::Each, ""),
+            ("b", 1, "g", Makes::Each, ""),
+            ("c", 1, "", Makes::Sum, "s"),
+        ],
+        &[("a", "c", Moves::One), ("b", "c", Moves::By(&[0]))],
+        Some(PlanFault::MixedPrimary { vertex: C }),
+    ),
+    // a side where none belongs, none where one does, a join of one and of a stranger
+    (
+        &[
+            ("a", 1, "f", Makes::Each, "s"),
+            ("b", 1, "g", Makes::Each, ""),
+        ],
+        &[("b", "a", Moves::All)],
+        Some(PlanFault::HeadInputs { vertex: A }),
+    ),
+    (
+        &[("a", 1, "f", Makes::Keep(&[0], &[0]), "s")],
+        &[],
+        Some(PlanFault::HeadInputs { vertex: A }),
+    ),
+    (
+        &[
+            ("a", 1, "f", Makes::Each, ""),
+            ("b", 1, "", Makes::Join("a"), "s"),
+        ],
+        &[("a", "b", Moves::By(&[0]))],
+        Some(PlanFault::HeadInputs { vertex: B }),
+    ),
+    (
+        &[
+            ("a", 1, "f", Makes::Each, ""),
+            ("b", 1, "g", Makes::Each, ""),
+            ("c", 2, "", Makes::Join("c"), "s"),
+        ],
+        &[("a", "c", Moves::By(&[0])), ("b", "c", Moves::By(&[1]))],
+        Some(PlanFault::HeadInputs { vertex: C }),
+    ),
+    // a sum one to one, by two keys, a join by one and two columns, a lookup likewise
+    (
+        &[
+            ("a", 1, "f", Makes::Each, ""),
+            ("b", 1, "", Makes::Sum, "s"),
+        ],
+        &[("a", "b", Moves::One)],
+        Some(PlanFault::KeyDiffers { vertex: B }),
+    ),
+    (
+        &[
+            ("a", 1, "f", Makes::Each, ""),
+            ("b", 1, "g", Makes::Each, ""),
+            ("c", 1, "", Makes::Sum, "s"),
+        ],
+        &[("a", "c", Moves::By(&[0])), ("b", "c", Moves::By(&[1]))],
+        Some(PlanFault::KeyDiffers { vertex: C }),
+    ),
+    (
+        &[
+            ("a", 1, "f", Makes::Each, ""),
+            ("b", 1, "g", Makes::Each, ""),
+            ("c", 1, "", Makes::Join("a"), "s"),
+        ],
+        &[("a", "c", Moves::By(&[0])), ("b", "c", Moves::By(&[0, 1]))],
+        Some(PlanFault::KeyDiffers { vertex: C }),
+    ),
+    (
+        &[
+            ("a", 1, "f", Makes::Lookup(&[0, 1], &[0]), "s"),
+            ("b", 1, "g", Makes::Each, ""),
+        ],
+        &[("b", "a", Moves::All)],
+        Some(PlanFault::KeyDiffers { vertex: A }),
+    ),
+    // other numbers of tasks, one to one, before a leaf without a sink
+    (
+        &[
+            ("a", 1, "f", Makes::Each, ""),
+            ("b", 2, "", Makes::Each, ""),
+        ],
+        &[("a", "b", Moves::One)],
+        Some(PlanFault::PartitionsDiffer { edge: EdgeId(0) }),
+    ),
+    (
+        &[("a", 2, "f", Makes::Each, ""), ("b", 2, "", Makes::Sum, "")],
+        &[("a", "b", Moves::By(&[0]))],
+        Some(PlanFault::LeafWithoutSink { vertex: B }),
+    ),
+    // a sink twice
+    (
+        &[
+            ("a", 1, "f", Makes::Each, "s"),
+            ("b", 1, "g", Makes::Each, ""),
+            ("c", 1, "", Makes::Each, "s"),
+        ],
+        &[("b", "c", Moves::One)],
+        Some(PlanFault::DuplicateSink { vertex: C }),
+    ),
+    // a million inputs for each of four edges, and one more
+    (
+        &[
+            ("a", 1000, "f", Makes::Each, ""),
+            ("b", 1000, "", Makes::Sum, "s"),
+            ("c", 1000, "", Makes::Sum, "t"),
+            ("d", 1000, "", Makes::Sum, "u"),
+            ("e", 1000, "", Makes::Sum, "v"),
+            ("g", 1000, "", Makes::Each, "w"),
+        ],
+        &[
+            ("a", "b", Moves::By(&[0])),
+            ("a", "c", Moves::By(&[0])),
+            ("a", "d", Moves::By(&[0])),
+            ("a", "e", Moves::By(&[0])),
+            ("a", "g", Moves::One),
+        ],
+        Some(PlanFault::TooMany { place: 4 }),
+    ),
+];
+
 #[test]
 fn each_fault_by_its_smallest_plan(rt: HostRuntime) -> Result<(), AllocError> {
-    let rows: [(&[Vertex], &[Edge], Option<PlanFault>); 27] = [
-        // one vertex, a count of words, a lookup, a join
-        (&[("a", 1, "f", Makes::Each, "s")], &[], None),
-        (
-            &[
-                ("a", 2, "f", Makes::Each, ""),
-                ("b", 2, "", Makes::Sum, "s"),
-            ],
-            &[("a", "b", Moves::By(&[0]))],
-            None,
-        ),
-        (
-            &[
-                ("a", 2, "f", Makes::Lookup(&[1], &[0]), "s"),
-                ("b", 3, "g", Makes::Each, ""),
-            ],
-            &[("b", "a", Moves::All)],
-            None,
-        ),
-        (
-            &[
-                ("a", 1, "f", Makes::Each, ""),
-                ("b", 1, "g", Makes::Each, ""),
-                ("c", 2, "", Makes::Join("b"), "s"),
-            ],
-            &[("a", "c", Moves::By(&[0])), ("b", "c", Moves::By(&[1]))],
-            None,
-        ),
-        // a name twice, also where an edge names no vertex
-        (
-            &[
-                ("a", 1, "f", Makes::Each, "s"),
-                ("a", 1, "f", Makes::Each, "t"),
-            ],
-            &[("a", "x", Moves::One)],
-            Some(PlanFault::DuplicateName { vertex: B }),
-        ),
-        // a name that is no vertex's, at either end
-        (
-            &[("a", 1, "f", Makes::Each, "s")],
-            &[("x", "a", Moves::All)],
-            Some(PlanFault::UnknownName { edge: EdgeId(0) }),
-        ),
-        (
-            &[
-                ("a", 1, "f", Makes::Each, "s"),
-                ("b", 1, "", Makes::Each, "t"),
-            ],
-            &[("a", "b", Moves::One), ("a", "x", Moves::One)],
-            Some(PlanFault::UnknownName { edge: EdgeId(1) }),
-        ),
-        // the same ends twice
-        (
-            &[
-                ("a", 2, "f", Makes::Each, ""),
-                ("b", 2, "", Makes::Sum, "s"),
-            ],
-            &[("a", "b", Moves::By(&[0])), ("a", "b", Moves::By(&[1]))],
-            Some(PlanFault::DuplicateEdge { edge: EdgeId(1) }),
-        ),
-        // both ways, and what is behind a cycle
-        (
-            &[("a", 1, "", Makes::Each, ""), ("b", 1, "", Makes::Each, "")],
-            &[("a", "b", Moves::One), ("b", "a", Moves::One)],
-            Some(PlanFault::Cycle { vertex: A }),
-        ),
-        (
-            &[
-                ("a", 1, "f", Makes::Each, ""),
-                ("b", 1, "", Makes::Each, "s"),
-                ("c", 1, "", Makes::Sum, ""),
-            ],
-            &[("c", "c", Moves::By(&[0])), ("c", "b", Moves::One)],
-            Some(PlanFault::Cycle { vertex: B }),
-        ),
-        // nothing to work on: the first such vertex, before a vertex with two sources of work
-        (
-            &[
-                ("a", 1, "", Makes::Each, "s"),
-                ("b", 1, "", Makes::Each, "t"),
-            ],
-            &[],
-            Some(PlanFault::NoPrimary { vertex: A }),
-        ),
-        (
-            &[
-                ("a", 1, "f", Makes::Each, ""),
-                ("b", 1, "g", Makes::Each, "s"),
-                ("c", 1, "", Makes::Each, "t"),
-            ],
-            &[("a", "b", Moves::One)],
-            Some(PlanFault::NoPrimary { vertex: C }),
-        ),
-        // a source and an edge, two one-to-one edges, two kinds of edges
-        (
-            &[
-                ("a", 1, "f", Makes::Each, ""),
-                ("b", 1, "g", Makes::Each, "s"),
-            ],
-            &[("a", "b", Moves::One)],
-            Some(PlanFault::MixedPrimary { vertex: B }),
-        ),
-        (
-            &[
-                ("a", 1, "f", Makes::Each, ""),
-                ("b", 1, "g", Makes::Each, ""),
-                ("c", 1, "", Makes::Each, "s"),
-            ],
-            &[("a", "c", Moves::One), ("b", "c", Moves::One)],
-            Some(PlanFault::MixedPrimary { vertex: C }),
-        ),
-        (
-            &[
-                ("a", 1, "f", Makes::Each, ""),
-                ("b", 1, "g", Makes::Each, ""),
-                ("c", 1, "", Makes::Sum, "s"),
-            ],
-            &[("a", "c", Moves::One), ("b", "c", Moves::By(&[0]))],
-            Some(PlanFault::MixedPrimary { vertex: C }),
-        ),
-        // a side where none belongs, none where one does, a join of one and of a stranger
-        (
-            &[
-                ("a", 1, "f", Makes::Each, "s"),
-                ("b", 1, "g", Makes::Each, ""),
-            ],
-            &[("b", "a", Moves::All)],
-            Some(PlanFault::HeadInputs { vertex: A }),
-        ),
-        (
-            &[("a", 1, "f", Makes::Keep(&[0], &[0]), "s")],
-            &[],
-            Some(PlanFault::HeadInputs { vertex: A }),
-        ),
-        (
-            &[
-                ("a", 1, "f", Makes::Each, ""),
-                ("b", 1, "", Makes::Join("a"), "s"),
-            ],
-            &[("a", "b", Moves::By(&[0]))],
-            Some(PlanFault::HeadInputs { vertex: B }),
-        ),
-        (
-            &[
-                ("a", 1, "f", Makes::Each, ""),
-                ("b", 1, "g", Makes::Each, ""),
-                ("c", 2, "", Makes::Join("c"), "s"),
-            ],
-            &[("a", "c", Moves::By(&[0])), ("b", "c", Moves::By(&[1]))],
-            Some(PlanFault::HeadInputs { vertex: C }),
-        ),
-        // a sum one to one, by two keys, a join by one and two columns, a lookup likewise
-        (
-            &[
-                ("a", 1, "f", Makes::Each, ""),
-                ("b", 1, "", Makes::Sum, "s"),
-            ],
-            &[("a", "b", Moves::One)],
-            Some(PlanFault::KeyDiffers { vertex: B }),
-        ),
-        (
-            &[
-                ("a", 1, "f", Makes::Each, ""),
-                ("b", 1, "g", Makes::Each, ""),
-                ("c", 1, "", Makes::Sum, "s"),
-            ],
-            &[("a", "c", Moves::By(&[0])), ("b", "c", Moves::By(&[1]))],
-            Some(PlanFault::KeyDiffers { vertex: C }),
-        ),
-        (
-            &[
-                ("a", 1, "f", Makes::Each, ""),
-                ("b", 1, "g", Makes::Each, ""),
-                ("c", 1, "", Makes::Join("a"), "s"),
-            ],
-            &[("a", "c", Moves::By(&[0])), ("b", "c", Moves::By(&[0, 1]))],
-            Some(PlanFault::KeyDiffers { vertex: C }),
-        ),
-        (
-            &[
-                ("a", 1, "f", Makes::Lookup(&[0, 1], &[0]), "s"),
-                ("b", 1, "g", Makes::Each, ""),
-            ],
-            &[("b", "a", Moves::All)],
-            Some(PlanFault::KeyDiffers { vertex: A }),
-        ),
-        // other numbers of tasks, one to one, before a leaf without a sink
-        (
-            &[
-                ("a", 1, "f", Makes::Each, ""),
-                ("b", 2, "", Makes::Each, ""),
-            ],
-            &[("a", "b", Moves::One)],
-            Some(PlanFault::PartitionsDiffer { edge: EdgeId(0) }),
-        ),
-        (
-            &[("a", 2, "f", Makes::Each, ""), ("b", 2, "", Makes::Sum, "")],
-            &[("a", "b", Moves::By(&[0]))],
-            Some(PlanFault::LeafWithoutSink { vertex: B }),
-        ),
-        // a sink twice
-        (
-            &[
-                ("a", 1, "f", Makes::Each, "s"),
-                ("b", 1, "g", Makes::Each, ""),
-                ("c", 1, "", Makes::Each, "s"),
-            ],
-            &[("b", "c", Moves::One)],
-            Some(PlanFault::DuplicateSink { vertex: C }),
-        ),
-        // a million inputs for each of four edges, and one more
-        (
-            &[
-                ("a", 1000, "f", Makes::Each, ""),
-                ("b", 1000, "", Makes::Sum, "s"),
-                ("c", 1000, "", Makes::Sum, "t"),
-                ("d", 1000, "", Makes::Sum, "u"),
-                ("e", 1000, "", Makes::Sum, "v"),
-                ("g", 1000, "", Makes::Each, "w"),
-            ],
-            &[
-                ("a", "b", Moves::By(&[0])),
-                ("a", "c", Moves::By(&[0])),
-                ("a", "d", Moves::By(&[0])),
-                ("a", "e", Moves::By(&[0])),
-                ("a", "g", Moves::One),
-            ],
-            Some(PlanFault::TooMany { place: 4 }),
-        ),
-    ];
-    for (vertices, edges, fault) in rows {
-        assert_eq!(rt; plan_of(rt.alloc(), vertices, edges)?.err(), fault);
+    for (vertices, edges, fault) in &PLANS {
+        assert_eq!(rt; plan_of(rt.alloc(), vertices, edges)?.err(), *fault);
     }
     Ok(())
 }
