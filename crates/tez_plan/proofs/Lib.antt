@@ -1,0 +1,12 @@
+pub mod CheckLemmas
+pub mod DepthLemmas
+pub mod FindLemmas
+pub mod GraphLemmas
+pub mod NameLemmas
+pub mod OrderLemmas
+pub mod RankLemmas
+pub mod Results
+pub mod Rows
+pub mod Samples
+pub mod StepLemmas
+pub mod TopoLemmas

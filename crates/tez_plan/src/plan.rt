@@ -1,0 +1,126 @@
+ghost use Rattle.std.specs.Prelude.{◌≡◌, ◌≢◌, ◌<◌, length, map, IfOk, IfErr, OnOk};
+ghost use Rattle.tez_plan.specs.declared.fault.PlanFault.TheVariants.{NoMemory};
+ghost use Rattle.tez_plan.specs.Dag.{dag_of, source_of, target_of, vertex};
+ghost use Rattle.tez_plan.specs.Faults.{IsValid, IsFirstFault};
+ghost use Rattle.tez_plan.specs.Order.{depth, topo};
+ghost use Rattle.tez_plan.specs.Ranges.{IsInRanges};
+
+use crate::fault::PlanFault;
+use crate::graph::Graph;
+use crate::parts::{EdgeSpec, VertexSpec};
+use std::alloc::{AllocError, Global};
+use std::marker::Model;
+use tez_ids::{EdgeId, Name, VertexId};
+
+/// A valid plan, of which contracts see the name and the two lists.
+#[derive(Drop)]
+pub struct Plan {
+    graph: Graph,
+    order: Vec<VertexId>,
+    depths: Vec<u32>,
+}
+
+impl Model for Plan {
+    ghost use Rattle.tez_plan.specs.Dag.{Dag};
+    ghost use Rattle.tez_plan.specs.Kept.{IsKept};
+
+    ghost Value = { Dag };
+
+    ghost view = { λ p. p.graph };
+
+    ghost invariant = { λ p. IsKept p.graph p.order.items p.depths.items };
+}
+
+/// The plan of this name, these vertices and these edges, or the first fault in the order of
+/// `PlanFault`. Takes time in the square of the number of vertices and edges.
+pub fn plan_new(
+    alloc: Global,
+    name: Name,
+    vertices: Vec<VertexSpec>,
+    edges: Vec<EdgeSpec>,
+) -> Result<Plan, PlanFault>
+    requires { IsInRanges (dag_of name vertices.items edges.items) }
+    ensures plan { IfOk result (λ p. p ≡ dag_of name vertices.items edges.items) }
+    ensures valid { OnOk result (IsValid (dag_of name vertices.items edges.items)) }
+    ensures fault { IfErr result (λ f. f ≢ NoMemory → IsFirstFault (dag_of name vertices.items edges.items) f) }
+{
+    let graph = match Graph::new(alloc, name, vertices, edges) {
+        Ok(graph) => graph,
+        Err(fault) => return Err(fault),
+    };
+    let order = match graph.checked(alloc) {
+        Ok(order) => order,
+        Err(fault) => return Err(fault),
+    };
+    match graph.depths(alloc) {
+        Ok(depths) => Ok(Plan {
+            graph,
+            order,
+            depths,
+        }),
+        Err(_) => Err(PlanFault::NoMemory),
+    }
+}
+
+impl Plan {
+    /// The name of the plan.
+    pub fn name(&self) -> &str
+        ensures { result.now ≡ self.now.name }
+    {
+        self.graph.name().as_str()
+    }
+
+    /// The vertices. A vertex's number is its place here.
+    pub fn vertices(&self) -> &[VertexSpec]
+        ensures same { result.now ≡ self.now.vertices }
+        ensures in_ranges { IsInRanges self.now }
+        ensures valid { IsValid self.now }
+    {
+        let _ = &self.order;
+        self.graph.vertices()
+    }
+
+    /// The edges. An edge's number is its place here.
+    pub fn edges(&self) -> &[EdgeSpec]
+        ensures { result.now ≡ self.now.edges }
+    {
+        self.graph.edges()
+    }
+
+    /// The vertices at the ends of an edge, its source first.
+    pub fn ends(&self, e: EdgeId) -> (VertexId, VertexId)
+        requires { e.0 < length self.now.edges }
+        ensures source { result.0.0 ≡ source_of self.now e.0 }
+        ensures target { result.1.0 ≡ target_of self.now e.0 }
+        ensures source_inside { result.0.0 < length self.now.vertices }
+        ensures target_inside { result.1.0 < length self.now.vertices }
+    {
+        self.graph.ends()[e.0 as usize]
+    }
+
+    /// An equal plan. Takes memory for all of it.
+    pub fn copy(&self, alloc: Global) -> Result<Self, AllocError>
+        ensures { IfOk result (λ copy. copy ≡ self.now) }
+    {
+        Ok(Plan {
+            graph: self.graph.copy(alloc)?,
+            order: Vec::from_slice(alloc, &self.order)?,
+            depths: Vec::from_slice(alloc, &self.depths)?,
+        })
+    }
+}
+
+/// The vertices in order: again and again the least one whose predecessors are all out.
+pub fn topo(alloc: Global, p: &Plan) -> Result<Vec<VertexId>, AllocError>
+    ensures { IfOk result (λ order. order.items ≡ map vertex (topo p.now)) }
+{
+    Vec::from_slice(alloc, &p.order)
+}
+
+/// The number of edges on the longest path to the vertex.
+pub fn depth(p: &Plan, v: VertexId) -> u32
+    requires { v.0 < length p.now.vertices }
+    ensures { result ≡ depth p.now v.0 }
+{
+    p.depths[v.0 as usize]
+}
