@@ -1,5 +1,6 @@
+pub mod Accepting
 pub mod Contents
 pub mod Ending
 pub mod Publishing
 pub mod RowLemmas
-pub mod Values
+pub mod Tools

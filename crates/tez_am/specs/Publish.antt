@@ -9,7 +9,7 @@ use Rattle.tez_am.specs.Meaning.{sink_text}
 use Rattle.tez_am.specs.declared.job.Job.{Job}
 use Rattle.tez_am.specs.declared.status.Device.TheVariants as device
 use Rattle.tez_am.specs.declared.status.Status.{Status}
-use Rattle.tez_am.specs.declared.status.Status.TheVariants.{Succeeded, Usage, InputMissing, InputFault, OtherForm, SinkExists, DeviceFault, OutFault, NoMemory}
+use Rattle.tez_am.specs.declared.status.Status.TheVariants.{SinkExists, DeviceFault, NoMemory}
 
 abbrev pub publications : Option Store → Option Named
 publications store = option_map (λ s. s.publications) store
