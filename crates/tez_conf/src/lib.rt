@@ -2,6 +2,8 @@
 #![tactic(auto)]
 
 mod conf;
+#[cfg(test)]
+mod tests;
 mod values;
 
 pub use conf::{Conf, defaults};

@@ -1,11 +1,10 @@
-ghost use Rattle.std.specs.Prelude.{◌≡◌, ◌≢◌, ℕ, List, Result, Some, None, IfOk, IfErr};
+ghost use Rattle.std.specs.Prelude.{◌≡◌, ◌≢◌, ℕ, List, Some, None, IfOk, IfErr};
 ghost use Rattle.serde_json.specs.View.{view};
 ghost use Rattle.tez_conf.specs.declared.values.ConfValues.{ConfValues};
 ghost use Rattle.tez_plan.specs.Dag.{Dag};
 ghost use Rattle.tez_plan.specs.Ranges.{IsInRanges};
 ghost use Rattle.tez_dag_json.specs.Due.{IsDue};
-ghost use Rattle.tez_dag_json.specs.declared.fault.DagFault.{DagFault};
-ghost use Rattle.tez_dag_json.specs.Answers.{ReadsAs};
+ghost use Rattle.tez_dag_json.specs.Answers.{Answer, ReadsAs};
 ghost use Rattle.tez_dag_json.specs.Documents.{contents};
 ghost use Rattle.tez_dag_json.specs.Form.{json, form};
 ghost use Rattle.tez_dag_json.specs.declared.fault.DagFault.TheVariants.{NoMemory, NotJson};
@@ -61,6 +60,7 @@ pub fn read_dag(alloc: Global, bytes: &[u8]) -> Result<(Plan, Conf), DagFault>
 }
 
 /// At most one answer is due to the bytes of a file.
+#[tactic(auto, using(crate::proofs::Due::one_due))]
 pub fn one_answer_is_due()
-    ensures { (bytes : List ℕ) (a b : Result (Dag × ConfValues) DagFault) → IsDue bytes a → IsDue bytes b → a ≡ b }
+    ensures { (bytes : List ℕ) (a b : Answer (Dag × ConfValues)) → IsDue bytes a → IsDue bytes b → a ≡ b }
 {}

@@ -252,7 +252,12 @@ fn any_gather_from(edges: &[EdgeSpec], ends: &[(VertexId, VertexId)], v: usize, 
 }
 
 #[tactic(auto, unfolding(crate::specs::Graph::gathers, crate::specs::Graph::all_have_keys))]
-fn all_gathers_have_keys(edges: &[EdgeSpec], ends: &[(VertexId, VertexId)], v: usize, keys: &[u16]) -> bool
+fn all_gathers_have_keys(
+    edges: &[EdgeSpec],
+    ends: &[(VertexId, VertexId)],
+    v: usize,
+    keys: &[u16],
+) -> bool
     ensures { result ≡ all_have_keys keys.now edges.now ends.now v }
 {
     let all = edges.iter().zip(ends.iter());
@@ -261,7 +266,12 @@ fn all_gathers_have_keys(edges: &[EdgeSpec], ends: &[(VertexId, VertexId)], v: u
 }
 
 #[tactic(auto, unfolding(crate::specs::Graph::gathers, crate::specs::Graph::all_have_count))]
-fn all_gathers_have_count(edges: &[EdgeSpec], ends: &[(VertexId, VertexId)], v: usize, count: usize) -> bool
+fn all_gathers_have_count(
+    edges: &[EdgeSpec],
+    ends: &[(VertexId, VertexId)],
+    v: usize,
+    count: usize,
+) -> bool
     ensures { result ≡ all_have_count count edges.now ends.now v }
 {
     let all = edges.iter().zip(ends.iter());

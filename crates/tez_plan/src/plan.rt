@@ -1,4 +1,7 @@
-ghost use Rattle.std.specs.Prelude.{◌≡◌, ◌≢◌, ◌<◌, length, map, IfOk, IfErr, OnOk};
+ghost use Rattle.std.specs.Prelude.{◌≡◌, ◌≢◌, ◌≤◌, ◌<◌, length, map, IfOk, IfErr, OnOk};
+ghost use Rattle.std.specs.List.{position};
+ghost use Rattle.std.specs.Option.{option_map};
+ghost use Rattle.std.specs.Str.{bytes_eq};
 ghost use Rattle.tez_plan.specs.declared.fault.PlanFault.TheVariants.{NoMemory};
 ghost use Rattle.tez_plan.specs.Dag.{dag_of, source_of, target_of, vertex};
 ghost use Rattle.tez_plan.specs.Faults.{IsValid, IsFirstFault};
@@ -39,6 +42,7 @@ pub fn plan_new(
     vertices: Vec<VertexSpec>,
     edges: Vec<EdgeSpec>,
 ) -> Result<Plan, PlanFault>
+    // `are_in_ranges` is the test of this.
     requires { IsInRanges (dag_of name vertices.items edges.items) }
     ensures plan { IfOk result (λ p. p ≡ dag_of name vertices.items edges.items) }
     ensures valid { OnOk result (IsValid (dag_of name vertices.items edges.items)) }
@@ -62,6 +66,14 @@ pub fn plan_new(
     }
 }
 
+fn place_named(vertices: &[VertexSpec], name: &str) -> Option<usize>
+    ensures { result ≡ position (λ v. bytes_eq name.now v.name) vertices.now }
+{
+    vertices
+        .iter()
+        .position(|vertex| name == vertex.name.as_str())
+}
+
 impl Plan {
     /// The name of the plan.
     pub fn name(&self) -> &str
@@ -75,6 +87,7 @@ impl Plan {
         ensures same { result.now ≡ self.now.vertices }
         ensures in_ranges { IsInRanges self.now }
         ensures valid { IsValid self.now }
+        ensures few { length result.now ≤ 64 }
     {
         let _ = &self.order;
         self.graph.vertices()
@@ -85,6 +98,16 @@ impl Plan {
         ensures { result.now ≡ self.now.edges }
     {
         self.graph.edges()
+    }
+
+    /// The vertex of this name.
+    pub fn vertex_named(&self, name: &str) -> Option<VertexId>
+        ensures { option_map (λ v. v.0) result ≡ position (λ s. bytes_eq name.now s.name) self.now.vertices }
+    {
+        match place_named(self.vertices(), name) {
+            Some(v) => Some(VertexId(v as u16)),
+            None => None,
+        }
     }
 
     /// The vertices at the ends of an edge, its source first.

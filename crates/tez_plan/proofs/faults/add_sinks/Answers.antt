@@ -18,7 +18,7 @@ returns-in-Ok-false-clause-fault c = λ _.
 
 pub loop-v-preserved : goal.loop-v-preserved
 loop-v-preserved c = elim c.match-vertices-v.branch [
-  in-Some+in-Ok-true w ↦
+  | in-Some+in-Ok-true w ↦
       let at : c.index-vertices-v.result.sink ≡ Some w.as_str.result.now = ap (λ s. s.sink) c.index-vertices-v.is ∙ w.in-Some.is ∙ ap Some (sym w.as_str.ensures) in
       let again = sink_again c.args.vertices.now c.loop-v.sinks.keys c.loop-v.v c.index-vertices-v.result c.loop-v-test.true c.index-vertices-v.is c.loop-v.invariant.sinks w.as_str.result at in
       let fresh : list_any (λ y. bytes_eq w.as_str.result.now y.now) c.loop-v.sinks.keys ≡ false = not-true _ (sym w.in-Ok-true.ensures.added ∙ w.in-Ok-true.field-0-test) in

@@ -19,10 +19,16 @@ returns-in-Ok-clause-known c =
 pub returns-in-Ok-clause-fault : goal.returns-in-Ok-clause-fault
 returns-in-Ok-clause-fault c =
     if_err _ _ c.connect.result
-    (λ f h other. inr (c.in-Ok.ensures.own, λ some.
-    let first = h other in
-    (first.0, record {
-      there = sym (unknown_are c.args.vertices.now c.args.edges.now _ c.in-Ok.ensures.names first.0) ∙ first.1.there;
-      before = λ m below. sym (unknown_are c.args.vertices.now c.args.edges.now _ c.in-Ok.ensures.names m) ∙ first.1.before m below;
-    }, first.2)))
+    (λ f h other. inr (
+      c.in-Ok.ensures.own,
+      λ some.
+          let first = h other in (
+            first.0,
+            record {
+              there = sym (unknown_are c.args.vertices.now c.args.edges.now _ c.in-Ok.ensures.names first.0) ∙ first.1.there;
+              before = λ m below. sym (unknown_are c.args.vertices.now c.args.edges.now _ c.in-Ok.ensures.names m) ∙ first.1.before m below;
+            },
+            first.2,
+          ),
+    ))
     c.connect.ensures.fault

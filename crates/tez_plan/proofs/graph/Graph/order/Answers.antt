@@ -31,7 +31,7 @@ loop-preserved c =
     let below : c.loop.counter < length p.vertices = omega (arith, ap length c.vertices-count.ensures.same) in
     let marks : (u : ℕ) → u < length p.vertices → get_or c.deref.result.now u false ≡ among o u = λ u inside. ap (λ xs. get_or xs u false) c.deref.ensures.value ∙ c.loop.invariant.marks u inside in
     elim c.match-next_ready.branch [
-      in-Some+in_ok-push w ↦
+      | in-Some+in_ok-push w ↦
           let items : map (λ v. v.0) c.match-next_ready.order.items ≡ o ++ w.in-Some.v ∷ [] =
           ap (λ ts. map (λ v. v.0) ts.items) w.order-is ∙ ap (map (λ v. v.0)) w.in_ok-push.ensures.items ∙ map-append (λ v. v.0) c.loop.order.items (record { 0 = w.in-Some.v } ∷ []) in
           let found : find (is_ready p o) (vertex_numbers p) ≡ Some w.in-Some.v = sym (w.in-Some.ensures.first o marks) in
