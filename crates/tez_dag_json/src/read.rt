@@ -7,7 +7,8 @@ ghost use Rattle.tez_dag_json.specs.Due.{IsDue};
 ghost use Rattle.tez_dag_json.specs.Answers.{Answer, ReadsAs};
 ghost use Rattle.tez_dag_json.specs.Documents.{contents};
 ghost use Rattle.tez_dag_json.specs.Form.{json, form};
-ghost use Rattle.tez_dag_json.specs.declared.fault.DagFault.TheVariants.{NoMemory, NotJson};
+ghost use Rattle.tez_dag_json.specs.declared.fault.DagFault.TheVariants.{NoMemory, NotJson, Plan as RefusedPlan};
+ghost use Rattle.tez_plan.specs.declared.fault.PlanFault.TheVariants as plan_fault;
 
 use crate::document::{Document, read_document};
 use crate::fault::DagFault;
@@ -41,6 +42,16 @@ fn said(alloc: Global, bytes: &[u8]) -> Result<Document, DagFault>
     }
 }
 
+/// The refusal of a file for the fault of its plan.
+fn refusal(fault: PlanFault) -> DagFault
+    ensures { result ≢ NoMemory → (fault ≢ plan_fault.NoMemory) × (result ≡ RefusedPlan fault) }
+{
+    match fault {
+        PlanFault::NoMemory => DagFault::NoMemory,
+        _ => DagFault::Plan(fault),
+    }
+}
+
 /// The plan and the configuration that a DAG file says, or why it is refused: the first fault of the
 /// walk through the file, or the first fault of its plan. A file of any length is read.
 #[tactic(auto, using(crate::proofs::Due::due_form, crate::proofs::Due::due_plan, crate::proofs::Due::due_fault))]
@@ -54,8 +65,7 @@ pub fn read_dag(alloc: Global, bytes: &[u8]) -> Result<(Plan, Conf), DagFault>
     };
     match plan_new(alloc, said.name, said.vertices, said.edges) {
         Ok(plan) => Ok((plan, said.conf)),
-        Err(PlanFault::NoMemory) => Err(DagFault::NoMemory),
-        Err(fault) => Err(DagFault::Plan(fault)),
+        Err(fault) => Err(refusal(fault)),
     }
 }
 
