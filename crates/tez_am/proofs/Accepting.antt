@@ -94,9 +94,9 @@ job_unread word reads s h = refusal_from (IsForm word) (IsJob word) reads s (job
 source_at : (name : List ℕ) (form : Form) (m : Named) (r : Result (List ℕ) Status) → name ≡ form.source → content name source_limit m ≡ r → and_then r (with_source form) ≡ form_job m form
 source_at name form m r named is = ap (λ b. and_then b (with_source form)) (sym is ∙ ap (λ n. content n source_limit m) named)
 
-pub job_read : (word : Option (List ℕ)) (form : Form) (name source : List ℕ) (old mid : Option Named) → name ≡ form.source → mid ≡ old
-    → Told old (λ m. IsForm word m (Ok form)) → Told mid (λ m. content name source_limit m ≡ Ok source) → Told old (λ m. IsJob word m (with_source form source))
-job_read word form name source old mid named same told whole m t = job_at word m form (with_source form source) (told m t) (source_at name form m (Ok source) named (whole m (same ∙ t)))
+pub job_read : (word : Option (List ℕ)) (form : Form) (name source kept : List ℕ) (old mid : Option Named) → name ≡ form.source → kept ≡ source → mid ≡ old
+    → Told old (λ m. IsForm word m (Ok form)) → Told mid (λ m. content name source_limit m ≡ Ok source) → Told old (λ m. IsJob word m (with_source form kept))
+job_read word form name source kept old mid named as_read same told whole m t = job_at word m form (with_source form kept) (told m t) (ap (with_source form) as_read ∙ source_at name form m (Ok source) named (whole m (same ∙ t)))
 
 -- the source's refusal, from reads that began later
 pub source_unread : (word : Option (List ℕ)) (form : Form) (name : List ℕ) (old mid : Option Named) (before between now : ℕ) (failed : List ℕ) → name ≡ form.source → mid ≡ old → before ≤ between

@@ -37,7 +37,7 @@ refused_cause c OtherForm h = h
 refused_cause c NoMemory h = tt
 refused_cause c _ h = absurd h
 
-refused_leaves : (c : Call) (word : List ℕ) → c.store.new ≡ c.store.old → (s : Status) → Refusal (IsAccepted c.words) c.reads s → Wrote (status_text s) c.out → Leaves c s
+refused_leaves : (c : Call) → c.store.new ≡ c.store.old → (s : Status) → Refusal (IsAccepted c.words) c.reads s → Wrote (status_text s) c.out → Leaves c s
 unfolding Cause Leaves
 refused_leaves c same (DagRefused f) h wrote = (same, wrote)
 refused_leaves c same (InputMissing n) h wrote = (same, wrote)

@@ -33,15 +33,15 @@ is_there name sink entries named there none =
 
 row_refused : (c : Call) (m : Named) → c.reads.files ≡ Some m → (refusal : Status) → IsAccepted c.words m (Err refusal) → (answer : Status) → Cause c answer → IsAnswerOfReads refusal answer
 unfolding Cause
-row_refused c m t refusal due Succeeded h = let j = h m t in absurd (not_both _ _ _ _ j.1 due)
-row_refused c m t refusal due Usage h = inl (inl (one_refusal _ _ _ _ (no_command c.words m h) due))
-row_refused c m t refusal due (DagRefused f) h = inl (inl (one_refusal _ _ _ _ (h m t) due))
-row_refused c m t refusal due (InputMissing n) h = inl (inl (one_refusal _ _ _ _ (h m t) due))
-row_refused c m t refusal due (InputTooLarge n) h = inl (inl (one_refusal _ _ _ _ (h m t) due))
+row_refused c m t refusal due Succeeded h = let j = h m t in absurd (not_both c.words _ _ _ j.1 due)
+row_refused c m t refusal due Usage h = inl (inl (one_refusal c.words _ _ _ (no_command c.words m h) due))
+row_refused c m t refusal due (DagRefused f) h = inl (inl (one_refusal c.words _ _ _ (h m t) due))
+row_refused c m t refusal due (InputMissing n) h = inl (inl (one_refusal c.words _ _ _ (h m t) due))
+row_refused c m t refusal due (InputTooLarge n) h = inl (inl (one_refusal c.words _ _ _ (h m t) due))
 row_refused c m t refusal due (InputFault n) h = inr (n, refl)
-row_refused c m t refusal due OtherForm h = inl (inl (one_refusal _ _ _ _ (h m t) due))
-row_refused c m t refusal due (SinkExists n) h = let j = h.0 m t in absurd (not_both _ _ _ _ j.1 due)
-row_refused c m t refusal due (DeviceFault device.Store) h = let j = h.1 m t in absurd (not_both _ _ _ _ j.1 due)
+row_refused c m t refusal due OtherForm h = inl (inl (one_refusal c.words _ _ _ (h m t) due))
+row_refused c m t refusal due (SinkExists n) h = let j = h.0 m t in absurd (not_both c.words _ _ _ j.1 due)
+row_refused c m t refusal due (DeviceFault device.Store) h = let j = h.1 m t in absurd (not_both c.words _ _ _ j.1 due)
 row_refused c m t refusal due (DeviceFault device.Disk) h = absurd h
 row_refused c m t refusal due OutFault h = inl (inr (inl refl))
 row_refused c m t refusal due NoMemory h = inl (inr (inr refl))
@@ -51,14 +51,14 @@ row_exists : (c : Call) (m : Named) → c.reads.files ≡ Some m → (job : Job)
 unfolding Cause
 row_exists c m t job is s told there Succeeded h =
     let j = h m t in
-    absurd (is_there _ _ s.publications (one_sink _ _ _ _ is j.1) there (none_by j.0.form.sink s.publications (j.2.not_before s told)))
-row_exists c m t job is s told there Usage h = absurd (not_both _ _ _ _ is (no_command c.words m h))
-row_exists c m t job is s told there (DagRefused f) h = absurd (not_both _ _ _ _ is (h m t))
-row_exists c m t job is s told there (InputMissing n) h = absurd (not_both _ _ _ _ is (h m t))
-row_exists c m t job is s told there (InputTooLarge n) h = absurd (not_both _ _ _ _ is (h m t))
+    absurd (is_there _ _ s.publications (one_sink c.words _ _ _ is j.1) there (none_by j.0.form.sink s.publications (j.2.not_before s told)))
+row_exists c m t job is s told there Usage h = absurd (not_both c.words _ _ _ is (no_command c.words m h))
+row_exists c m t job is s told there (DagRefused f) h = absurd (not_both c.words _ _ _ is (h m t))
+row_exists c m t job is s told there (InputMissing n) h = absurd (not_both c.words _ _ _ is (h m t))
+row_exists c m t job is s told there (InputTooLarge n) h = absurd (not_both c.words _ _ _ is (h m t))
 row_exists c m t job is s told there (InputFault n) h = inl (inr (n, refl))
-row_exists c m t job is s told there OtherForm h = absurd (not_both _ _ _ _ is (h m t))
-row_exists c m t job is s told there (SinkExists n) h = let j = h.0 m t in inl (inl (inl (ap SinkExists (j.2 ∙ one_sink _ _ _ _ j.1 is))))
+row_exists c m t job is s told there OtherForm h = absurd (not_both c.words _ _ _ is (h m t))
+row_exists c m t job is s told there (SinkExists n) h = let j = h.0 m t in inl (inl (inl (ap SinkExists (j.2 ∙ one_sink c.words _ _ _ j.1 is))))
 row_exists c m t job is s told there (DeviceFault device.Store) h = inr refl
 row_exists c m t job is s told there (DeviceFault device.Disk) h = absurd h
 row_exists c m t job is s told there OutFault h = inl (inl (inr (inl refl)))
@@ -68,13 +68,13 @@ row_succeeds : (c : Call) (m : Named) → c.reads.files ≡ Some m → (job : Jo
     → (answer : Status) → Cause c answer → IsAnswerOfRun Succeeded answer
 unfolding Cause
 row_succeeds c m t job is s told none Succeeded h = inl (inl (inl refl))
-row_succeeds c m t job is s told none Usage h = absurd (not_both _ _ _ _ is (no_command c.words m h))
-row_succeeds c m t job is s told none (DagRefused f) h = absurd (not_both _ _ _ _ is (h m t))
-row_succeeds c m t job is s told none (InputMissing n) h = absurd (not_both _ _ _ _ is (h m t))
-row_succeeds c m t job is s told none (InputTooLarge n) h = absurd (not_both _ _ _ _ is (h m t))
+row_succeeds c m t job is s told none Usage h = absurd (not_both c.words _ _ _ is (no_command c.words m h))
+row_succeeds c m t job is s told none (DagRefused f) h = absurd (not_both c.words _ _ _ is (h m t))
+row_succeeds c m t job is s told none (InputMissing n) h = absurd (not_both c.words _ _ _ is (h m t))
+row_succeeds c m t job is s told none (InputTooLarge n) h = absurd (not_both c.words _ _ _ is (h m t))
 row_succeeds c m t job is s told none (InputFault n) h = inl (inr (n, refl))
-row_succeeds c m t job is s told none OtherForm h = absurd (not_both _ _ _ _ is (h m t))
-row_succeeds c m t job is s told none (SinkExists n) h = let j = h.0 m t in absurd (is_there _ _ s.publications (j.2 ∙ one_sink _ _ _ _ j.1 is) (h.1 s told) none)
+row_succeeds c m t job is s told none OtherForm h = absurd (not_both c.words _ _ _ is (h m t))
+row_succeeds c m t job is s told none (SinkExists n) h = let j = h.0 m t in absurd (is_there _ _ s.publications (j.2 ∙ one_sink c.words _ _ _ j.1 is) (h.1 s told) none)
 row_succeeds c m t job is s told none (DeviceFault device.Store) h = inr refl
 row_succeeds c m t job is s told none (DeviceFault device.Disk) h = absurd h
 row_succeeds c m t job is s told none OutFault h = inl (inl (inr (inl refl)))

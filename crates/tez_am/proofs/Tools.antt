@@ -107,11 +107,11 @@ not_both word m said refusal a b = let h = one_dag word m (Ok said) (Err refusal
 
 row_refused : (c : ToolCall) (m : Named) → c.reads.files ≡ Some m → (refusal : Status) → IsDag (check_word c.words) m (Err refusal) → (answer : Status) → ToolCause c answer → IsAnswerOfReads refusal answer
 unfolding ToolCause
-row_refused c m t refusal due Succeeded h = absurd (not_both _ _ _ _ (h.is m t) due)
-row_refused c m t refusal due Usage h = inl (inl (one_refusal _ _ _ _ (no_dag _ m h) due))
-row_refused c m t refusal due (DagRefused f) h = inl (inl (one_refusal _ _ _ _ (h m t) due))
-row_refused c m t refusal due (InputMissing n) h = inl (inl (one_refusal _ _ _ _ (h m t) due))
-row_refused c m t refusal due (InputTooLarge n) h = inl (inl (one_refusal _ _ _ _ (h m t) due))
+row_refused c m t refusal due Succeeded h = absurd (not_both (check_word c.words) _ _ _ (h.is m t) due)
+row_refused c m t refusal due Usage h = inl (inl (one_refusal (check_word c.words) _ _ _ (no_dag (check_word c.words) m h) due))
+row_refused c m t refusal due (DagRefused f) h = inl (inl (one_refusal (check_word c.words) _ _ _ (h m t) due))
+row_refused c m t refusal due (InputMissing n) h = inl (inl (one_refusal (check_word c.words) _ _ _ (h m t) due))
+row_refused c m t refusal due (InputTooLarge n) h = inl (inl (one_refusal (check_word c.words) _ _ _ (h m t) due))
 row_refused c m t refusal due (InputFault n) h = inr (n, refl)
 row_refused c m t refusal due OtherForm h = absurd h
 row_refused c m t refusal due (SinkExists n) h = absurd h
@@ -122,10 +122,10 @@ row_refused c m t refusal due NoMemory h = inl (inr (inr refl))
 row_succeeds : (c : ToolCall) (m : Named) → c.reads.files ≡ Some m → (said : Planned) → IsDag (check_word c.words) m (Ok said) → (answer : Status) → ToolCause c answer → IsAnswerOfReads Succeeded answer
 unfolding ToolCause
 row_succeeds c m t said is Succeeded h = inl (inl refl)
-row_succeeds c m t said is Usage h = absurd (not_both _ _ _ _ is (no_dag _ m h))
-row_succeeds c m t said is (DagRefused f) h = absurd (not_both _ _ _ _ is (h m t))
-row_succeeds c m t said is (InputMissing n) h = absurd (not_both _ _ _ _ is (h m t))
-row_succeeds c m t said is (InputTooLarge n) h = absurd (not_both _ _ _ _ is (h m t))
+row_succeeds c m t said is Usage h = absurd (not_both (check_word c.words) _ _ _ is (no_dag (check_word c.words) m h))
+row_succeeds c m t said is (DagRefused f) h = absurd (not_both (check_word c.words) _ _ _ is (h m t))
+row_succeeds c m t said is (InputMissing n) h = absurd (not_both (check_word c.words) _ _ _ is (h m t))
+row_succeeds c m t said is (InputTooLarge n) h = absurd (not_both (check_word c.words) _ _ _ is (h m t))
 row_succeeds c m t said is (InputFault n) h = inr (n, refl)
 row_succeeds c m t said is OtherForm h = absurd h
 row_succeeds c m t said is (SinkExists n) h = absurd h

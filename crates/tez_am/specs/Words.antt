@@ -22,6 +22,9 @@ dag_word words = file_of (codes "run") words
 abbrev pub check_word : List (List ℕ) → Option (List ℕ)
 check_word words = file_of (codes "check") words
 
+abbrev pub is_run_word : List ℕ → Bool
+is_run_word command = bytes_eq command (codes "run") || bytes_eq command (codes "resume") || bytes_eq command (codes "drill")
+
 abbrev pub is_for_run : List (List ℕ) → Bool
 is_for_run [] = false
-is_for_run (command ∷ words) = bytes_eq command (codes "run") || bytes_eq command (codes "resume") || bytes_eq command (codes "drill")
+is_for_run (command ∷ words) = is_run_word command

@@ -1,6 +1,6 @@
 // The words of a command.
 ghost use Rattle.std.specs.Prelude.{◌≡◌, option_map, map, string_bytes};
-ghost use Rattle.tez_am.specs.Words.{file_of, dag_word, check_word, is_file_word, is_for_run};
+ghost use Rattle.tez_am.specs.Words.{file_of, dag_word, check_word, is_file_word, is_run_word, is_for_run};
 
 /// The DAG file of `run FILE`, and none of any other words.
 pub fn dag_file(words: &[String]) -> Option<&str>
@@ -46,7 +46,13 @@ pub fn is_run(words: &[String]) -> bool
     ensures { result ≡ is_for_run (map string_bytes words.now) }
 {
     match words {
-        [command, ..] => matches!(command.as_str(), "run" | "resume" | "drill"),
+        [command, ..] => is_run_command(command.as_str()),
         [] => false,
     }
+}
+
+fn is_run_command(command: &str) -> bool
+    ensures { result ≡ is_run_word command.now }
+{
+    command == "run" || command == "resume" || command == "drill"
 }

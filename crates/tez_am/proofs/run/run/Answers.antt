@@ -1,6 +1,5 @@
-use Rattle.std.proofs.Common.{◌≡◌, ◌∙◌, ap}
+use Rattle.std.proofs.Common.{◌∙◌, ap}
 use Rattle.tez_record.specs.Bag.{text}
-use Rattle.tez_am.specs.Meaning.{sink_text}
 use Rattle.tez_am.proofs.Publishing.{publishes_from, fresh_from, more_since, run_cause}
 use Rattle.tez_am.proofs.run.run.Goals as goal
 
