@@ -4,13 +4,11 @@ use Rattle.std.specs.Option.{ok_or}
 use Rattle.tez_dag_json.specs.Due.{IsDue}
 use Rattle.tez_dag_json.specs.declared.fault.DagFault.{DagFault}
 use Rattle.tez_dag_json.proofs.Due.{one_due}
-use Rattle.tez_ports.specs.Causes.{Rose}
 use Rattle.tez_ports.specs.Content.{Named, Told}
-use Rattle.tez_am.specs.Accept.{Planned, and_then, Next, content, IsContent, dag_limit, source_limit, dag_bytes, IsDagOf, IsDag, AfterDag, planned_form, planned_job, form_job, with_source, IsForm, IsJob, IsAccepted}
+use Rattle.tez_am.specs.Accept.{Planned, and_then, Next, content, IsContent, dag_limit, source_limit, dag_bytes, IsDagOf, IsDag, planned_form, planned_job, form_job, with_source, IsForm, IsJob}
 use Rattle.tez_am.specs.Call.{Reads}
 use Rattle.tez_am.specs.Cause.{Refusal}
 use Rattle.tez_am.specs.FirstPath.{first_path}
-use Rattle.tez_am.specs.Words.{dag_word}
 use Rattle.tez_am.proofs.Publishing.{rose_later}
 use Rattle.tez_am.specs.declared.job.Form.{Form}
 use Rattle.tez_am.specs.declared.job.Job.{Job}
@@ -41,16 +39,19 @@ refused_at word files r is = rw is
 pub dag_unread : (word : List ℕ) (reads : Reads) (s : Status) → Refusal (IsContent word dag_limit) reads s → Refusal (IsDag (Some word)) reads s
 dag_unread word reads s h = refusal_from (IsContent word dag_limit) (IsDag (Some word)) reads s (refused_at word) h
 
-pub dag_read : (word bytes : List ℕ) (said : Planned) (files : Option Named) → Told files (λ m. content word dag_limit m ≡ Ok bytes) → IsDue bytes (Ok said) → Told files (λ m. IsDag (Some word) m (Ok said))
-dag_read word bytes said files told due m t = dag_at word bytes m (Ok said) (told m t) due
+-- the bytes are read through a slice of them
 
-pub dag_refused : (word bytes : List ℕ) (reads : Reads) (s : Status) → Told reads.files (λ m. content word dag_limit m ≡ Ok bytes)
-    → (s ≡ NoMemory) ⊎ ((fault : DagFault) × (s ≡ DagRefused fault) × IsDue bytes (Err fault)) → Refusal (IsDag (Some word)) reads s
-dag_refused word bytes reads s told is =
+pub dag_read : (word bytes slice : List ℕ) (said : Planned) (files : Option Named) → Told files (λ m. content word dag_limit m ≡ Ok bytes) → slice ≡ bytes → IsDue slice (Ok said)
+    → Told files (λ m. IsDag (Some word) m (Ok said))
+dag_read word bytes slice said files told same due m t = dag_at word bytes m (Ok said) (told m t) (subst (λ b. IsDue b (Ok said)) same due)
+
+pub dag_refused : (word bytes slice : List ℕ) (reads : Reads) (s : Status) → Told reads.files (λ m. content word dag_limit m ≡ Ok bytes) → slice ≡ bytes
+    → (s ≡ NoMemory) ⊎ ((fault : DagFault) × (s ≡ DagRefused fault) × IsDue slice (Err fault)) → Refusal (IsDag (Some word)) reads s
+dag_refused word bytes slice reads s told same is =
     let P : Status → Type 0 = λ r. Refusal (IsDag (Some word)) reads r in
     elim is [
-    | inl short ↦ subst P (sym short) tt
-    | inr it ↦ subst P (sym it.1) (λ m t. dag_at word bytes m (Err (DagRefused it.0)) (told m t) it.2)
+      | inl short ↦ subst P (sym short) tt
+      | inr it ↦ subst P (sym it.1) (λ m t. dag_at word bytes m (Err (DagRefused it.0)) (told m t) (subst (λ b. IsDue b (Err it.0)) same it.2))
     ]
 
 -- ---- the form
@@ -70,8 +71,8 @@ pub form_refused : (word : Option (List ℕ)) (said : Planned) (reads : Reads) (
 form_refused word said reads s told is =
     let P : Status → Type 0 = λ r. Refusal (IsForm word) reads r in
     elim is [
-    | inl short ↦ subst P (sym short) tt
-    | inr other ↦ subst P (sym other.0) (λ m t. record { dag = Ok said; is = told m t; rest = ap (λ f. ok_or f OtherForm) (sym other.1) })
+      | inl short ↦ subst P (sym short) tt
+      | inr other ↦ subst P (sym other.0) (λ m t. record { dag = Ok said; is = told m t; rest = ap (λ f. ok_or f OtherForm) (sym other.1) })
     ]
 
 -- ---- the job
@@ -104,17 +105,18 @@ pub source_unread : (word : Option (List ℕ)) (form : Form) (name : List ℕ) (
     → Refusal (IsJob word) (record { files = old; before = before; now = now; failed = failed }) s
 source_unread word form name old mid before between now failed named same later told s h =
     by s h where
-  due : (r : Status) → ((m : Named) → mid ≡ Some m → content name source_limit m ≡ Err r) → (m : Named) → old ≡ Some m → IsJob word m (Err r)
-  due r is m t = job_at word m form (Err r) (told m t) (source_at name form m (Err r) named (is m (same ∙ t)))
-  by : (s : Status) → Refusal (IsContent name source_limit) (record { files = mid; before = between; now = now; failed = failed }) s
-      → Refusal (IsJob word) (record { files = old; before = before; now = now; failed = failed }) s
-  by (DagRefused fault) h = due (DagRefused fault) h
-  by (InputMissing n) h = due (InputMissing n) h
-  by (InputTooLarge n) h = due (InputTooLarge n) h
-  by (InputFault n) h = (rose_later _ _ _ later h.0, h.1)
-  by OtherForm h = due OtherForm h
-  by NoMemory h = tt
-  by _ h = absurd h
+      due : (r : Status) → ((m : Named) → mid ≡ Some m → content name source_limit m ≡ Err r) → (m : Named) → old ≡ Some m → IsJob word m (Err r)
+      due r is m t = job_at word m form (Err r) (told m t) (source_at name form m (Err r) named (is m (same ∙ t)))
+
+      by : (s : Status) → Refusal (IsContent name source_limit) (record { files = mid; before = between; now = now; failed = failed }) s
+          → Refusal (IsJob word) (record { files = old; before = before; now = now; failed = failed }) s
+      by (DagRefused fault) h = due (DagRefused fault) h
+      by (InputMissing n) h = due (InputMissing n) h
+      by (InputTooLarge n) h = due (InputTooLarge n) h
+      by (InputFault n) h = (rose_later _ _ _ later h.0, h.1)
+      by OtherForm h = due OtherForm h
+      by NoMemory h = tt
+      by _ h = absurd h
 
 -- ---- one answer is due
 

@@ -1,5 +1,5 @@
 -- What the reads say of the checks before a run.
-use Rattle.std.proofs.Common.{◌≡◌, ◌⊎◌, ℕ, ◌<◌, ◌≤◌, List, length, Option, Some, None, IsSomeAnd, Result, Ok, Err, refl, inl, inr, sym, subst}
+use Rattle.std.proofs.Common.{◌≡◌, ◌⊎◌, ℕ, ◌<◌, ◌≤◌, List, length, Option, Some, None, IsSomeAnd, Ok, Err, refl, inl, inr, sym, subst}
 use Rattle.std.proofs.lemmas.Bool.{le-leb, lt-leb}
 use Rattle.tez_ports.specs.Content.{Named, Told, bytes_of}
 use Rattle.tez_am.specs.Accept.{content, IsContent}

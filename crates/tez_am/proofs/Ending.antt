@@ -1,12 +1,12 @@
 -- How a call ends, from how its run ended and from what was said.
-use Rattle.std.proofs.Common.{◌≡◌, ◌≢◌, ◌⊎◌, ℕ, List, Option, Some, None, option_map, Result, Ok, Err, IfOk, IfErr, OnOk, refl, inl, inr, ◌∙◌, sym, subst, ap}
+use Rattle.std.proofs.Common.{◌≡◌, ◌≢◌, ℕ, List, Some, None, Result, Ok, Err, IfOk, IfErr, OnOk, inl, inr, sym, subst, ap}
 use Rattle.tez_ports.specs.Causes.{Rose}
-use Rattle.tez_ports.specs.Content.{Named, Store, Told}
+use Rattle.tez_ports.specs.Content.{Told}
 use Rattle.tez_am.specs.Accept.{IsJob, IsAccepted}
-use Rattle.tez_am.specs.Call.{Reads, Stored, Writes, Call, Wrote, WrotePart}
+use Rattle.tez_am.specs.Call.{Writes, Call, Wrote, WrotePart}
 use Rattle.tez_am.specs.Cause.{Refusal, ForJob, Cause, Leaves, MayPublish, SaidNoMemory}
 use Rattle.tez_am.specs.Meaning.{summary_of}
-use Rattle.tez_am.specs.Publish.{publications, SamePublications, Publishes, RunCause}
+use Rattle.tez_am.specs.Publish.{publications, Publishes, RunCause}
 use Rattle.tez_am.specs.Say.{Said, answer_of, text_of}
 use Rattle.tez_am.specs.Text.{success_text, status_text}
 use Rattle.tez_am.specs.Words.{dag_word}

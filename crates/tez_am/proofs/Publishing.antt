@@ -1,17 +1,17 @@
 -- What the calls of the store come to.
-use Rattle.std.proofs.Common.{◌≡◌, ◌⊎◌, ℕ, ◌≤◌, ◌++◌, List, [], ◌∷◌, Bool, true, false, cond, not, filter, Option, Some, None, option_map, is_some, IsSome, Result, Err, refl, inl, inr, ◌∙◌, sym, subst, ap, bytes_eq, arith, rules}
+use Rattle.std.proofs.Common.{◌≡◌, ◌⊎◌, ℕ, ◌≤◌, ◌++◌, List, [], ◌∷◌, Bool, true, false, cond, not, Option, Some, None, option_map, is_some, IsSome, Err, refl, inl, inr, ◌∙◌, sym, ap, bytes_eq, arith}
 use Rattle.std.proofs.lemmas.Slice.Eq.{bytes_eq-Decides}
 use Rattle.tez_ports.specs.Causes.{Rose, DeviceHasCause}
 use Rattle.tez_ports.specs.declared.faults.DeviceStop.{DeviceStop}
 use Rattle.tez_ports.specs.declared.faults.DeviceStop.TheVariants.{Failed, Stopped}
-use Rattle.tez_ports.specs.Content.{Named, Store, Told, IsEither, bytes_of, without, put, readies, moves, publishes}
-use Rattle.tez_am.specs.Call.{Stored, StoreFailed}
+use Rattle.tez_ports.specs.Content.{Named, Store, Told, IsEither, bytes_of, without, put, readies, publishes}
+use Rattle.tez_am.specs.Call.{Stored}
 use Rattle.tez_am.specs.Meaning.{sink_text}
-use Rattle.tez_am.specs.Publish.{publications, published, SamePublications, OneMore, Publishes, PublishCause, RunCause}
+use Rattle.tez_am.specs.Publish.{publications, published, OneMore, Publishes, PublishCause, RunCause}
 use Rattle.tez_am.specs.declared.job.Job.{Job}
 use Rattle.tez_am.specs.declared.status.Device.TheVariants as device
 use Rattle.tez_am.specs.declared.status.Status.{Status}
-use Rattle.tez_am.specs.declared.status.Status.TheVariants.{Succeeded, Usage, InputMissing, InputFault, OtherForm, SinkExists, DeviceFault, OutFault, NoMemory}
+use Rattle.tez_am.specs.declared.status.Status.TheVariants.{DeviceFault, NoMemory}
 
 same_bytes : (name : List ℕ) → bytes_eq name name ≡ true
 same_bytes name = (bytes_eq-Decides name name).1 refl

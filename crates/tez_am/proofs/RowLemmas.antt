@@ -1,10 +1,10 @@
 -- An answer whose cause holds is the one that is due.
-use Rattle.std.proofs.Common.{◌≡◌, ◌⊎◌, ℕ, List, Option, Some, None, true, is_some, IsSome, Result, Ok, Err, refl, inl, inr, ◌∙◌, sym, subst, ap}
-use Rattle.tez_ports.specs.Content.{Named, Store, Told, bytes_of}
+use Rattle.std.proofs.Common.{◌≡◌, ℕ, List, Option, Some, None, true, is_some, IsSome, Ok, Err, refl, inl, inr, ◌∙◌, subst, ap}
+use Rattle.tez_ports.specs.Content.{Named, Store, bytes_of}
 use Rattle.tez_am.specs.Accept.{IsAccepted}
 use Rattle.tez_am.specs.Call.{Call}
 use Rattle.tez_am.specs.Cause.{Cause}
-use Rattle.tez_am.specs.Rows.{IsAnswer, IsAnswerOfReads, IsAnswerOfRun, KeepsRows}
+use Rattle.tez_am.specs.Rows.{IsAnswerOfReads, IsAnswerOfRun, KeepsRows}
 use Rattle.tez_am.specs.Words.{dag_word}
 use Rattle.tez_am.proofs.Accepting.{no_dag, one_job}
 use Rattle.tez_am.proofs.Publishing.{none_by}

@@ -1,11 +1,11 @@
 -- How a call of a tool ends, from what its check gave and from what was said.
-use Rattle.std.proofs.Common.{◌≡◌, ◌≢◌, ◌⊎◌, ℕ, List, Option, Some, None, Result, Ok, Err, IfOk, IfErr, refl, inl, inr, ◌∙◌, sym, subst, ap}
-use Rattle.tez_ports.specs.Content.{Named, Told}
+use Rattle.std.proofs.Common.{◌≡◌, ◌≢◌, ℕ, List, Option, Some, None, Ok, Err, refl, inl, inr, subst}
+use Rattle.tez_ports.specs.Content.{Named}
 use Rattle.tez_am.specs.Accept.{Planned, IsDag}
-use Rattle.tez_am.specs.Call.{Reads, Writes, Wrote, WrotePart}
+use Rattle.tez_am.specs.Call.{Wrote, WrotePart}
 use Rattle.tez_am.specs.Cause.{Refusal}
 use Rattle.tez_am.specs.Rows.{IsAnswerOfReads}
-use Rattle.tez_am.specs.Say.{Said, checked_of, checked_text}
+use Rattle.tez_am.specs.Say.{Said}
 use Rattle.tez_am.specs.Text.{status_text}
 use Rattle.tez_am.specs.Tool.{ToolCall, check_text, Says, ForPlan, ToolCause, ToolLeaves, KeepsToolRows}
 use Rattle.tez_am.specs.Words.{check_word}

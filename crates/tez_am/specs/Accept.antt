@@ -4,7 +4,7 @@
 --     IsForm word files answer      its form, where it can be run
 --     IsJob word files answer       that, and the bytes of its source
 --     IsAccepted words files answer     the job of the words
-use Rattle.std.specs.Prelude.{◌≡◌, ℕ, List, length, nat_le, if◌then◌else◌, Option, Some, None, Result, Ok, Err}
+use Rattle.std.specs.Prelude.{◌≡◌, ℕ, List, length, nat_le, if◌then◌else◌, Option, Result, Ok, Err}
 use Rattle.std.specs.Option.{ok_or}
 use Rattle.tez_conf.specs.declared.values.ConfValues.{ConfValues}
 use Rattle.tez_plan.specs.Dag.{Dag}

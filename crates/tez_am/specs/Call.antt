@@ -1,5 +1,5 @@
 -- A call: its words, and what its devices told before and after it. `before` and `now` are counts of failures.
-use Rattle.std.specs.Prelude.{◌≡◌, ◌⊎◌, ℕ, List, ◌++◌, take, codes, Option, option_map}
+use Rattle.std.specs.Prelude.{◌≡◌, ◌⊎◌, ℕ, List, ◌++◌, take, Option, option_map}
 use Rattle.tez_ports.specs.Causes.{Rose}
 use Rattle.tez_ports.specs.Content.{Named, Store}
 

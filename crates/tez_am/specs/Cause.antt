@@ -1,9 +1,9 @@
 -- When each answer comes, and what it leaves.
-use Rattle.std.specs.Prelude.{◌≡◌, ◌≢◌, ◌⊎◌, ⊤, ℕ, List, codes, Option, Some, None, IsSome, Result, Ok, Err}
+use Rattle.std.specs.Prelude.{◌≡◌, ◌≢◌, ◌⊎◌, ⊤, ℕ, List, codes, None, IsSome, Result, Ok, Err}
 use Rattle.tez_ports.specs.Causes.{Rose}
-use Rattle.tez_ports.specs.Content.{Named, Store, Told, bytes_of}
+use Rattle.tez_ports.specs.Content.{Named, Told, bytes_of}
 use Rattle.tez_am.specs.Accept.{IsAccepted}
-use Rattle.tez_am.specs.Call.{Reads, Stored, Writes, Call, StoreFailed, Wrote, WrotePart}
+use Rattle.tez_am.specs.Call.{Reads, Writes, Call, StoreFailed, Wrote, WrotePart}
 use Rattle.tez_am.specs.Meaning.{summary_of}
 use Rattle.tez_am.specs.Publish.{SamePublications, Publishes}
 use Rattle.tez_am.specs.Text.{success_text, status_text}

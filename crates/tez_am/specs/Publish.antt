@@ -2,7 +2,7 @@
 --     publications store                    the names and bytes that were published, in their order
 --     IsPublishedOnce job publications      the job's sink is there exactly once, with exactly its text
 --     Publishes job old new                 it was not there before, is there once now, and nothing else was published
-use Rattle.std.specs.Prelude.{◌≡◌, ◌⊎◌, ℕ, List, [], ◌∷◌, ◌++◌, filter, bytes_eq, Option, option_map, IsSome, Result}
+use Rattle.std.specs.Prelude.{◌≡◌, ◌⊎◌, ℕ, List, [], ◌∷◌, ◌++◌, filter, bytes_eq, Option, option_map, IsSome}
 use Rattle.tez_ports.specs.Content.{Named, Store, Told, bytes_of}
 use Rattle.tez_am.specs.Call.{Stored, StoreFailed}
 use Rattle.tez_am.specs.Meaning.{sink_text}

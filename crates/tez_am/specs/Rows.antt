@@ -1,5 +1,5 @@
 -- Which answer is to come, unless a device fails or memory is short.
-use Rattle.std.specs.Prelude.{◌≡◌, ◌⊎◌, ℕ, List, Option, Some, None, IsSome, Result, Ok, Err}
+use Rattle.std.specs.Prelude.{◌≡◌, ◌⊎◌, ℕ, List, Option, Some, None, IsSome, Ok, Err}
 use Rattle.tez_ports.specs.Content.{Named, Store, bytes_of}
 use Rattle.tez_am.specs.Accept.{IsAccepted}
 use Rattle.tez_am.specs.declared.job.Job.{Job}

@@ -6,7 +6,6 @@ use Rattle.tez_dag_json.specs.Names.{word_and_place}
 use Rattle.tez_dag_json.specs.declared.fault.DagFault.{DagFault}
 use Rattle.tez_dag_json.specs.declared.fault.DagFault.TheVariants as dag
 use Rattle.tez_am.specs.declared.job.Summary.{Summary}
-use Rattle.tez_am.specs.declared.status.Device.{Device}
 use Rattle.tez_am.specs.declared.status.Device.TheVariants.{Disk, Store}
 use Rattle.tez_am.specs.declared.status.Status.{Status}
 use Rattle.tez_am.specs.declared.status.Status.TheVariants.{Succeeded, Usage, DagRefused, InputMissing, InputTooLarge, InputFault, OtherForm, SinkExists, DeviceFault, OutFault, NoMemory}

@@ -1,8 +1,6 @@
 -- A call of a tool: its words, and what its devices told before and after it. When each answer comes, what it leaves, and which is to come.
 --     check_text said       what `check` writes of a DAG file: its canonical text, and a line feed
-use Rattle.std.specs.Prelude.{◌≡◌, ◌≢◌, ◌⊎◌, ⊤, ℕ, List, ◌++◌, codes, Option, None, Result, Ok, Err}
-use Rattle.tez_conf.specs.declared.values.ConfValues.{ConfValues}
-use Rattle.tez_plan.specs.Dag.{Dag}
+use Rattle.std.specs.Prelude.{◌≡◌, ◌≢◌, ◌⊎◌, ⊤, ℕ, List, ◌++◌, codes, Option, None, Ok, Err}
 use Rattle.tez_plan.specs.Faults.{IsValid}
 use Rattle.tez_dag_json.specs.Canonical.{canonical}
 use Rattle.tez_ports.specs.Causes.{Rose}
@@ -13,7 +11,6 @@ use Rattle.tez_am.specs.Cause.{IsRefused, ReadFailed, SaidNoMemory}
 use Rattle.tez_am.specs.Rows.{IsAnswerOfReads}
 use Rattle.tez_am.specs.Text.{status_text}
 use Rattle.tez_am.specs.Words.{check_word}
-use Rattle.tez_am.specs.declared.status.Device.TheVariants as device
 use Rattle.tez_am.specs.declared.status.Status.{Status}
 use Rattle.tez_am.specs.declared.status.Status.TheVariants.{Succeeded, Usage, DagRefused, InputMissing, InputTooLarge, InputFault, OtherForm, SinkExists, DeviceFault, OutFault, NoMemory}
 

@@ -398,9 +398,19 @@ fn checks(rt: HostRuntime) -> Result<(), Fail> {
             "]},{\"from\":\"split\",\"to\":\"total\",\"movement\":\"BROADCAST\"}]}",
             "plan duplicate-edge 1",
         ),
-        ("{\"name\":\"wc\",\"vertices\":[{\"name\":\"split\"", "", "", "not json"),
+        (
+            "{\"name\":\"wc\",\"vertices\":[{\"name\":\"split\"",
+            "",
+            "",
+            "not json",
+        ),
         (ONE, "\"tasks\":1", "\"tasks\":0", "range vertices[0].tasks"),
-        (ONE, "\"tasks\":1", "\"tasks\":1,\"more\":0", "shape vertices[0]"),
+        (
+            ONE,
+            "\"tasks\":1",
+            "\"tasks\":1,\"more\":0",
+            "shape vertices[0]",
+        ),
         (
             ONE,
             "\"one\"",
@@ -425,7 +435,13 @@ fn checks(rt: HostRuntime) -> Result<(), Fail> {
 fn exit_of(alloc: Global, words: &[&str], dag: &[u8], source: &[u8]) -> Result<u8, Fail> {
     let mut files = SureFiles::new(entries(alloc, dag, Some(source))?);
     let mut store = SureStore::new(alloc);
-    let status = call(alloc, words, &mut files, &mut store, &mut SureOut::new(alloc))?;
+    let status = call(
+        alloc,
+        words,
+        &mut files,
+        &mut store,
+        &mut SureOut::new(alloc),
+    )?;
     Ok(exit_code(&status))
 }
 
@@ -442,7 +458,11 @@ fn runs_no_other_form(rt: HostRuntime) -> Result<(), Fail> {
     ];
     for (old, new, exit) in changes {
         let dag = changed(alloc, ONE, old, new)?;
-        assert_eq!(rt; exit_of(alloc, RUN, dag.as_bytes(), b"ab\n")?, exit, "{new}");
+        assert_eq!(rt;
+            exit_of(alloc, RUN, dag.as_bytes(), b"ab\n")?,
+            exit,
+            "{new}"
+        );
     }
     Ok(())
 }

@@ -5,7 +5,7 @@ pub returns-in-Err-clause-refusal : goal.returns-in-Err-clause-refusal
 returns-in-Err-clause-refusal g c = dag_unread _ _ _ c.in-Err.ensures.refusal
 
 pub returns-in-Ok-dag-clause-said : goal.returns-in-Ok-dag-clause-said
-returns-in-Ok-dag-clause-said g c = dag_read _ _ _ _ c.in-Ok.ensures.bytes c.in-Ok-dag.ensures.said
+returns-in-Ok-dag-clause-said g c = dag_read _ _ _ _ _ c.in-Ok.ensures.bytes c.deref.ensures.value c.in-Ok-dag.ensures.said
 
 pub returns-clause-refusal : goal.returns-clause-refusal
-returns-clause-refusal g c = dag_refused _ _ _ _ c.in-Ok.ensures.bytes c.in-Err-dag.ensures.refusal
+returns-clause-refusal g c = dag_refused _ _ _ _ _ c.in-Ok.ensures.bytes c.deref.ensures.value c.in-Err-dag.ensures.refusal
