@@ -1,6 +1,6 @@
+pub mod Accepting
 pub mod Contents
 pub mod Ending
 pub mod Publishing
 pub mod RowLemmas
-pub mod Values
-mod WorkedRows
+pub mod Tools

@@ -1,10 +1,11 @@
 pub mod Accept
 pub mod Call
 pub mod Cause
-pub mod Form
+pub mod FirstPath
 pub mod Meaning
 pub mod Publish
 pub mod Rows
 pub mod Say
 pub mod Text
 pub mod Words
+pub mod Tool

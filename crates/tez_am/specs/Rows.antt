@@ -1,7 +1,7 @@
 -- Which answer is to come, unless a device fails or memory is short.
 use Rattle.std.specs.Prelude.{◌≡◌, ◌⊎◌, ℕ, List, Option, Some, None, IsSome, Ok, Err}
 use Rattle.tez_ports.specs.Content.{Named, Store, bytes_of}
-use Rattle.tez_am.specs.Accept.{accepted}
+use Rattle.tez_am.specs.Accept.{IsAccepted}
 use Rattle.tez_am.specs.declared.job.Job.{Job}
 use Rattle.tez_am.specs.declared.status.Device.TheVariants as device
 use Rattle.tez_am.specs.declared.status.Status.{Status}
@@ -20,8 +20,8 @@ abbrev pub IsAnswerOfRun : Status → Status → Type 0
 IsAnswerOfRun due answer = IsAnswerOfReads due answer ⊎ (answer ≡ DeviceFault device.Store)
 
 pub record KeepsRows (words : List (List ℕ)) (files : Named) (store : Option Store) (answer : Status) : Type 0 where
-  pub refused : (refusal : Status) → accepted words files ≡ Err refusal → IsAnswerOfReads refusal answer
-  pub exists : (job : Job) → accepted words files ≡ Ok job → (s : Store) → store ≡ Some s → IsSome (bytes_of job.form.sink s.publications)
+  pub refused : (refusal : Status) → IsAccepted words files (Err refusal) → IsAnswerOfReads refusal answer
+  pub exists : (job : Job) → IsAccepted words files (Ok job) → (s : Store) → store ≡ Some s → IsSome (bytes_of job.form.sink s.publications)
       → IsAnswerOfRun (SinkExists job.form.sink) answer
-  pub succeeds : (job : Job) → accepted words files ≡ Ok job → (s : Store) → store ≡ Some s → bytes_of job.form.sink s.publications ≡ None
+  pub succeeds : (job : Job) → IsAccepted words files (Ok job) → (s : Store) → store ≡ Some s → bytes_of job.form.sink s.publications ≡ None
       → IsAnswerOfRun Succeeded answer

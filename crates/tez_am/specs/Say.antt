@@ -18,6 +18,15 @@ abbrev pub text_of : Result Summary Status → List ℕ
 text_of (Ok summary) = success_text summary
 text_of (Err refusal) = status_text refusal
 
+-- the same of a check, whose text is what it gave
+abbrev pub checked_of : Result (List ℕ) Status → Status
+checked_of (Ok text) = Succeeded
+checked_of (Err refusal) = refusal
+
+abbrev pub checked_text : Result (List ℕ) Status → List ℕ
+checked_text (Ok text) = text
+checked_text (Err refusal) = status_text refusal
+
 -- all of the text was written, and the answer stands; or out failed; or memory is short
 abbrev pub Said : Status → List ℕ → Writes → Status → Type 0
 Said status text out answer = ((answer ≡ status) × Wrote text out)

@@ -2,7 +2,7 @@
 ghost use Rattle.std.specs.Prelude.{◌≡◌, ◌≤◌, ◌≢◌, ◌⊎◌, ℕ, List, IfOk, IfErr};
 ghost use Rattle.tez_ports.specs.Content.{Told};
 ghost use Rattle.tez_am.specs.Call.{reads_of};
-ghost use Rattle.tez_am.specs.Accept.{content};
+ghost use Rattle.tez_am.specs.Accept.{content, IsContent};
 ghost use Rattle.tez_am.specs.Cause.{Refusal};
 
 use crate::status::Status;
@@ -21,13 +21,14 @@ pub fn input<F: InputFiles>(
     ensures later { F.faults files.old ≤ F.faults files.new }
     ensures stays_sure { F.is_sure files.old → F.is_sure files.new }
     ensures bytes { IfOk result (λ v. Told (F.files files.old) (λ m. content name.now limit m ≡ Ok v.items)) }
-    ensures refusal { IfErr result (Refusal (content name.now limit) (reads_of F.files F.faults F.failed files.old files.new)) }
+    ensures refusal { IfErr result (Refusal (IsContent name.now limit) (reads_of F.files F.faults F.failed files.old files.new)) }
+    ensures no_form { IfErr result (λ s. s ≢ Status.OtherForm) }
     ensures sure { F.is_sure files.old → IfErr result (λ s. (n : List ℕ) → s ≢ Status.InputFault n) }
 {
     match files.read(alloc, name, limit) {
         Ok(bytes) => Ok(bytes),
         Err(ReadFault::Missing) => Err(missing(alloc, name)),
-        Err(ReadFault::TooLarge) => Err(Status::OtherForm),
+        Err(ReadFault::TooLarge) => Err(too_large(alloc, name)),
         Err(ReadFault::Failed) => Err(failed(alloc, name)),
         Err(ReadFault::NoMemory) => Err(Status::NoMemory),
     }
@@ -38,6 +39,15 @@ fn missing(alloc: Global, name: &str) -> Status
 {
     match Name::copy_of(alloc, name) {
         Ok(name) => Status::InputMissing(name),
+        Err(_) => Status::NoMemory,
+    }
+}
+
+fn too_large(alloc: Global, name: &str) -> Status
+    ensures { (result ≡ Status.InputTooLarge name.now) ⊎ (result ≡ Status.NoMemory) }
+{
+    match Name::copy_of(alloc, name) {
+        Ok(name) => Status::InputTooLarge(name),
         Err(_) => Status::NoMemory,
     }
 }

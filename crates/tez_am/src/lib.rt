@@ -1,7 +1,8 @@
-//! The calls of the program: a run from its words to its status and its text.
+//! The calls of the program, a run or a tool, from the words to the status and the text.
 #![tactic(auto)]
 
 mod accept;
+mod check;
 mod form;
 mod input;
 mod job;
@@ -10,10 +11,12 @@ mod run;
 mod say;
 mod status;
 mod text;
+mod tool;
 mod top;
 mod words;
 
 pub use status::{Device, Status, exit_code};
+pub use tool::am_tool;
 pub use top::am_run;
 
 #[cfg(test)]

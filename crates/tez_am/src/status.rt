@@ -1,6 +1,7 @@
 ghost use Rattle.std.specs.Prelude.{◌≡◌};
 ghost use Rattle.tez_am.specs.Text.{exit_of};
 
+use tez_dag_json::DagFault;
 use tez_ids::Name;
 
 /// A device that a call may fail at, beside its inputs and its text.
@@ -13,15 +14,19 @@ pub enum Device {
 /// How a call ended.
 #[derive(Debug, Drop)]
 pub enum Status {
-    /// The sink is published, and the text says so.
+    /// The sink is published, and the text says so; of a tool, its text is written.
     Succeeded,
     /// The words are no command.
     Usage,
+    /// The DAG file has this fault.
+    DagRefused(DagFault),
     /// An input of this name is not there.
     InputMissing(Name),
+    /// The input of this name is larger than its limit.
+    InputTooLarge(Name),
     /// The input of this name could not be read.
     InputFault(Name),
-    /// The DAG file is not of the form that can be run, or an input is too large.
+    /// The plan of the DAG file is not of the form that can be run.
     OtherForm,
     /// The sink of this name was published before.
     SinkExists(Name),
@@ -39,7 +44,9 @@ pub fn exit_code(status: &Status) -> u8
     match status {
         Status::Succeeded => 0,
         Status::Usage => 2,
+        Status::DagRefused(_) => 3,
         Status::InputMissing(_) => 4,
+        Status::InputTooLarge(_) => 5,
         Status::InputFault(_) => 6,
         Status::SinkExists(_) => 7,
         Status::DeviceFault(_) => 12,

@@ -1,7 +1,7 @@
 // Whole calls over devices in memory.
 ghost use Rattle.std.specs.Prelude.{ℕ};
 
-use crate::{Device, Status, am_run, exit_code};
+use crate::{Status, am_run, am_tool, exit_code};
 use std::alloc::{AllocError, Global};
 use std::process::Abort;
 use std::test::Fail;
@@ -15,6 +15,17 @@ const ONE: &str =
 
 const WC: &str =
     "{\"name\":\"wc\",\"vertices\":[{\"name\":\"split\",\"tasks\":2,\"source\":\"in.txt\",\"head\":{\"op\":\"each\"},\"steps\":[{\"op\":\"tokenise\"}]},{\"name\":\"total\",\"tasks\":2,\"head\":{\"op\":\"sum\",\"value\":1},\"sink\":\"counts\"}],\"edges\":[{\"from\":\"split\",\"to\":\"total\",\"movement\":\"SCATTER_GATHER\",\"keys\":[0]}]}";
+
+const ONE_WRITTEN: &str =
+    "{\"conf\":{\"auto_parallel\":false,\"desired_bytes\":104857600,\"max_failed\":4,\"max_masters\":2,\"max_src\":750,\"min_src\":250,\"min_tasks\":1,\"nodes\":2,\"per_node\":2,\"reuse\":true},\"edges\":[],\"name\":\"one\",\"vertices\":[{\"head\":{\"op\":\"each\"},\"name\":\"only\",\"sink\":\"kept\",\"source\":\"in.txt\",\"steps\":[{\"field\":0,\"op\":\"filter\",\"test\":\"contains\",\"value\":\"b\"}],\"tasks\":1}]}\n";
+
+/// Two vertices joined both ways.
+const CYCLE: &str =
+    "{\"name\":\"d\",\"vertices\":[{\"name\":\"a\",\"tasks\":1,\"head\":{\"op\":\"each\"}},{\"name\":\"b\",\"tasks\":1,\"head\":{\"op\":\"each\"}}],\"edges\":[{\"from\":\"a\",\"to\":\"b\",\"movement\":\"ONE_TO_ONE\"},{\"from\":\"b\",\"to\":\"a\",\"movement\":\"ONE_TO_ONE\"}]}";
+
+/// A sum over a one-to-one edge.
+const KEYLESS: &str =
+    "{\"name\":\"d\",\"vertices\":[{\"name\":\"a\",\"tasks\":1,\"source\":\"in.txt\",\"head\":{\"op\":\"each\"}},{\"name\":\"b\",\"tasks\":1,\"head\":{\"op\":\"sum\",\"value\":1},\"sink\":\"out\"}],\"edges\":[{\"from\":\"a\",\"to\":\"b\",\"movement\":\"ONE_TO_ONE\"}]}";
 
 const USAGE: &str =
     "usage: tez run or resume DAG [--script FILE] [--trace], drill SEED LINES, check DAG, meaning DAG, audit DAG TRACE, generate SEED LINES\n";
@@ -76,6 +87,7 @@ fn entries(alloc: Global, dag: &[u8], source: Option<&[u8]>) -> Result<Vec<(Name
     Ok(entries)
 }
 
+/// What the program does with the words.
 fn call(
     alloc: Global,
     words: &[&str],
@@ -91,6 +103,9 @@ fn call(
         spare: 0,
         faults: 0,
     };
+    if let Some(status) = am_tool(alloc, &list, files, out) {
+        return Ok(status);
+    }
     Ok(am_run(
         alloc,
         &list,
@@ -99,7 +114,7 @@ fn call(
         &mut disk,
         out,
         &OpenGate {},
-        &mut Trace::new(),
+        &mut Trace::new(alloc),
     ))
 }
 
@@ -133,7 +148,7 @@ struct Row<'t> {
     sink: &'t str,
 }
 
-fn check(rt: &impl Abort, alloc: Global, row: &Row<'_>) -> Result<(), Fail> {
+fn try_row(rt: &impl Abort, alloc: Global, row: &Row<'_>) -> Result<(), Fail> {
     let source = if row.source == ABSENT {
         None
     } else {
@@ -218,6 +233,15 @@ fn runs(rt: HostRuntime) -> Result<(), Fail> {
             sink: ABSENT,
             ..kept
         },
+        // The DAG file is refused before its form is looked at, and before the source.
+        Row {
+            dag: CYCLE,
+            source: ABSENT,
+            exit: 3,
+            text: "REFUSED dag plan cycle 0\n",
+            sink: ABSENT,
+            ..kept
+        },
         Row {
             source: ABSENT,
             exit: 4,
@@ -275,15 +299,7 @@ fn runs(rt: HostRuntime) -> Result<(), Fail> {
             ..usage
         },
         Row {
-            words: &["run"],
-            ..usage
-        },
-        Row {
             words: &["run", "--", "one.json"],
-            ..usage
-        },
-        Row {
-            words: &["run", "one.json", "--trace", "--trace"],
             ..usage
         },
         Row {
@@ -291,16 +307,12 @@ fn runs(rt: HostRuntime) -> Result<(), Fail> {
             ..usage
         },
         Row {
-            words: &["run", ""],
-            ..usage
-        },
-        Row {
-            words: &["walk", "one.json"],
+            words: &["resume", "one.json"],
             ..usage
         },
     ];
     for row in rows.iter() {
-        check(&rt, rt.alloc(), row)?;
+        try_row(&rt, rt.alloc(), row)?;
     }
     Ok(())
 }
@@ -324,68 +336,134 @@ fn leaves_a_sink_that_is_there(rt: HostRuntime) -> Result<(), Fail> {
     Ok(())
 }
 
-fn changed(alloc: Global, old: &str, new: &str) -> Result<String, Fail> {
-    match ONE.split_once(old) {
+/// A text with one part put in place of another.
+fn changed(alloc: Global, text: &str, old: &str, new: &str) -> Result<String, Fail> {
+    match text.split_once(old) {
         Some((before, after)) => Ok(format!(in alloc; "{before}{new}{after}")?),
         None => Ok(String::new(alloc)),
     }
 }
 
-fn exit_of(alloc: Global, dag: &[u8]) -> Result<u8, Fail> {
-    let source = Some("ab\nc\nb\n".as_bytes());
-    let mut files = SureFiles::new(entries(alloc, dag, source)?);
-    let mut store = SureStore::new(alloc);
-    let status = call(alloc, RUN, &mut files, &mut store, &mut SureOut::new(alloc))?;
-    let code = exit_code(&status);
-    if code == 0 || store.publications().is_empty() {
-        Ok(code)
-    } else {
-        Ok(255)
-    }
-}
+const CHECK: &[&str] = &["check", "one.json"];
 
 #[test]
-fn reads_no_other_form(rt: HostRuntime) -> Result<(), Fail> {
+fn checks(rt: HostRuntime) -> Result<(), Fail> {
     let alloc = rt.alloc();
-    let changes = [
-        ("\"tasks\":1", "\"tasks\":2"),
-        ("\"tasks\":1", "\"tasks\":1.0"),
-        ("\"tasks\":1", "\"tasks\":1,\"more\":0"),
-        ("\"tasks\":1,", ""),
-        ("\"field\":0", "\"field\":256"),
-        ("\"field\":0", "\"field\":-1"),
-        ("\"field\":0", "\"field\":0,\"more\":0"),
-        ("contains", "eq"),
-        ("filter", "project"),
-        ("each", "count"),
-        ("\"kept\"", "\".kept\""),
-        ("\"kept\"", "\"kept/\""),
-        ("\"kept\"", "\"\""),
-        ("in.txt", "in txt"),
-        ("\"one\"", "\"o.e\""),
-        ("\"one\"", "\"one\",\"edges\":[]"),
-        ("}]}", "}"),
+    let written = Row {
+        words: CHECK,
+        dag: ONE,
+        source: ABSENT,
+        faults: NONE,
+        exit: 0,
+        text: ONE_WRITTEN,
+        sink: ABSENT,
+    };
+    let rows = [
+        written,
+        Row {
+            faults: Faults { write: 1, ..NONE },
+            exit: 14,
+            text: "",
+            ..written
+        },
+        Row {
+            faults: Faults { read: 1, ..NONE },
+            exit: 6,
+            text: "REFUSED input fault one.json\n",
+            ..written
+        },
+        Row {
+            words: &["check", "two.json"],
+            exit: 4,
+            text: "REFUSED input missing two.json\n",
+            ..written
+        },
+        Row {
+            words: &["check"],
+            exit: 2,
+            text: USAGE,
+            ..written
+        },
     ];
-    for (old, new) in changes {
-        let dag = changed(alloc, old, new)?;
-        assert!(rt; !dag.is_empty(), "{old}");
-        assert_eq!(rt; exit_of(alloc, dag.as_bytes())?, 19, "{new}");
+    for row in rows.iter() {
+        try_row(&rt, alloc, row)?;
     }
-    let same = [
-        ("\"field\":0", "\"field\":255"),
-        ("in.txt\",", "in.txt\" , "),
+    let changes = [
+        (CYCLE, "", "", "plan cycle 0"),
+        (KEYLESS, "", "", "plan key-differs 1"),
+        (WC, ",\"sink\":\"counts\"", "", "plan leaf-without-sink 1"),
         (
-            "\"name\":\"one\",\"vertices\"",
-            "\"name\":\"_-9Z\",\"vertices\"",
+            WC,
+            "]}]}",
+            "]},{\"from\":\"split\",\"to\":\"total\",\"movement\":\"BROADCAST\"}]}",
+            "plan duplicate-edge 1",
+        ),
+        (
+            "{\"name\":\"wc\",\"vertices\":[{\"name\":\"split\"",
+            "",
+            "",
+            "not json",
+        ),
+        (ONE, "\"tasks\":1", "\"tasks\":0", "range vertices[0].tasks"),
+        (
+            ONE,
+            "\"tasks\":1",
+            "\"tasks\":1,\"more\":0",
+            "shape vertices[0]",
+        ),
+        (
+            ONE,
+            "\"one\"",
+            "\"one\",\"conf\":{\"min_src\":800}",
+            "range conf.max_src",
         ),
     ];
-    for (old, new) in same {
-        let dag = changed(alloc, old, new)?;
-        assert_eq!(rt; exit_of(alloc, dag.as_bytes())?, 0, "{new}");
+    for (text, old, new, fault) in changes {
+        let dag = changed(alloc, text, old, new)?;
+        let refused = format!(in alloc; "REFUSED dag {fault}\n")?;
+        let row = Row {
+            dag: dag.as_str(),
+            exit: 3,
+            text: refused.as_str(),
+            ..written
+        };
+        try_row(&rt, alloc, &row)?;
     }
-    assert_eq!(rt; exit_of(alloc, b"")?, 19);
-    assert_eq!(rt; exit_of(alloc, b"{\"name\":\"\xff\"}")?, 19);
-    assert_eq!(rt; exit_of(alloc, vec![in alloc; b'['; 1000]?.as_slice())?, 19);
+    Ok(())
+}
+
+fn exit_of(alloc: Global, words: &[&str], dag: &[u8], source: &[u8]) -> Result<u8, Fail> {
+    let mut files = SureFiles::new(entries(alloc, dag, Some(source))?);
+    let mut store = SureStore::new(alloc);
+    let status = call(
+        alloc,
+        words,
+        &mut files,
+        &mut store,
+        &mut SureOut::new(alloc),
+    )?;
+    Ok(exit_code(&status))
+}
+
+/// A configuration may stand in what is run, and no change of the form.
+#[test]
+fn runs_no_other_form(rt: HostRuntime) -> Result<(), Fail> {
+    let alloc = rt.alloc();
+    let changes = [
+        ("\"tasks\":1", "\"tasks\":2", 19),
+        ("contains", "eq", 19),
+        ("\"steps\":[", "\"steps\":[{\"op\":\"tokenise\"},", 19),
+        ("\"field\":0", "\"field\":255", 0),
+        ("\"one\"", "\"one\",\"edges\":[],\"conf\":{\"nodes\":3}", 0),
+    ];
+    for (old, new, exit) in changes {
+        let dag = changed(alloc, ONE, old, new)?;
+        assert_eq!(rt;
+            exit_of(alloc, RUN, dag.as_bytes(), b"ab\n")?,
+            exit,
+            "{new}"
+        );
+    }
     Ok(())
 }
 
@@ -394,40 +472,13 @@ fn keeps_the_limits(rt: HostRuntime) -> Result<(), Fail> {
     let alloc = rt.alloc();
     let mut dag = ONE.as_bytes().to_vec(alloc)?;
     dag.resize(1_048_576, b' ')?;
-    assert_eq!(rt; exit_of(alloc, &dag)?, 0);
+    assert_eq!(rt; exit_of(alloc, CHECK, &dag, b"")?, 0);
     dag.push(b' ')?;
-    assert_eq!(rt; exit_of(alloc, &dag)?, 19);
-    for (len, exit) in [(67_108_864, 0), (67_108_865, 19)] {
+    assert_eq!(rt; exit_of(alloc, CHECK, &dag, b"")?, 5);
+    assert_eq!(rt; exit_of(alloc, RUN, &dag, b"")?, 5);
+    for (len, exit) in [(67_108_864, 0), (67_108_865, 5)] {
         let source = vec![in alloc; b'b'; len]?;
-        let mut files = SureFiles::new(entries(alloc, ONE.as_bytes(), Some(&source))?);
-        let mut store = SureStore::new(alloc);
-        let status = call(alloc, RUN, &mut files, &mut store, &mut SureOut::new(alloc))?;
-        assert_eq!(rt; exit_code(&status), exit);
+        assert_eq!(rt; exit_of(alloc, RUN, ONE.as_bytes(), &source)?, exit);
     }
-    Ok(())
-}
-
-#[test]
-fn has_an_exit_code_for_each_status(rt: HostRuntime) -> Result<(), Fail> {
-    let alloc = rt.alloc();
-    assert_eq!(rt; exit_code(&Status::Succeeded), 0);
-    assert_eq!(rt; exit_code(&Status::Usage), 2);
-    assert_eq!(rt;
-        exit_code(&Status::InputMissing(Name::copy_of(alloc, "a")?)),
-        4
-    );
-    assert_eq!(rt;
-        exit_code(&Status::InputFault(Name::copy_of(alloc, "a")?)),
-        6
-    );
-    assert_eq!(rt;
-        exit_code(&Status::SinkExists(Name::copy_of(alloc, "a")?)),
-        7
-    );
-    assert_eq!(rt; exit_code(&Status::DeviceFault(Device::Disk)), 12);
-    assert_eq!(rt; exit_code(&Status::DeviceFault(Device::Store)), 12);
-    assert_eq!(rt; exit_code(&Status::OutFault), 14);
-    assert_eq!(rt; exit_code(&Status::NoMemory), 15);
-    assert_eq!(rt; exit_code(&Status::OtherForm), 19);
     Ok(())
 }

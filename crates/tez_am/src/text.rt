@@ -1,10 +1,12 @@
 // The texts of the answers.
 ghost use Rattle.std.specs.Prelude.{◌≡◌, ◌++◌, [], ◌∷◌, IfOk, string_bytes};
-ghost use Rattle.tez_am.specs.Text.{success_text, status_text};
+ghost use Rattle.tez_am.specs.Text.{success_text, status_text, dag_fault_text, plan_fault_text};
 
 use crate::job::Summary;
 use crate::status::{Device, Status};
 use std::alloc::{AllocError, Global};
+use tez_dag_json::{DagFault, word_and_place};
+use tez_plan::PlanFault;
 
 /// What is said of a published sink.
 pub fn success(alloc: Global, summary: &Summary) -> Result<String, AllocError>
@@ -30,13 +32,38 @@ pub fn refusal(alloc: Global, status: &Status) -> Result<String, AllocError>
             alloc,
             "usage: tez run or resume DAG [--script FILE] [--trace], drill SEED LINES, check DAG, meaning DAG, audit DAG TRACE, generate SEED LINES\n",
         ),
+        Status::DagRefused(fault) => dag_refusal(alloc, fault),
         Status::InputMissing(name) => named(alloc, "REFUSED input missing ", name.as_str()),
+        Status::InputTooLarge(name) => named(alloc, "REFUSED input too large ", name.as_str()),
         Status::InputFault(name) => named(alloc, "REFUSED input fault ", name.as_str()),
         Status::OtherForm => String::from_str(alloc, "REFUSED other form\n"),
         Status::SinkExists(name) => named(alloc, "REFUSED sink exists ", name.as_str()),
         Status::DeviceFault(Device::Disk) => String::from_str(alloc, "FAILED device disk\n"),
         Status::DeviceFault(Device::Store) => String::from_str(alloc, "FAILED device store\n"),
         Status::NoMemory => String::from_str(alloc, "NO MEMORY\n"),
+    }
+}
+
+/// What is said of a DAG file's fault.
+fn dag_refusal(alloc: Global, fault: &DagFault) -> Result<String, AllocError>
+    ensures { IfOk result (λ s. string_bytes s ≡ dag_fault_text fault.now) }
+{
+    match fault {
+        DagFault::NotJson => String::from_str(alloc, "REFUSED dag not json\n"),
+        DagFault::Shape { path } => named(alloc, "REFUSED dag shape ", path.as_str()),
+        DagFault::OutOfRange { key } => named(alloc, "REFUSED dag range ", key.as_str()),
+        DagFault::Plan(fault) => plan_refusal(alloc, *fault),
+        DagFault::NoMemory => String::from_str(alloc, "NO MEMORY\n"),
+    }
+}
+
+/// What is said of a plan's fault: its word and its place.
+fn plan_refusal(alloc: Global, fault: PlanFault) -> Result<String, AllocError>
+    ensures { IfOk result (λ s. string_bytes s ≡ plan_fault_text fault) }
+{
+    match word_and_place(fault) {
+        Some((word, place)) => format!(in alloc; "REFUSED dag plan {word} {place}\n"),
+        None => String::from_str(alloc, "NO MEMORY\n"),
     }
 }
 

@@ -1,5 +1,5 @@
 // The top call.
-ghost use Rattle.std.specs.Prelude.{◌≡◌, ◌≢◌, ℕ, List, None, map, string_bytes};
+ghost use Rattle.std.specs.Prelude.{◌≡◌, ◌≢◌, ℕ, List, [], None, map, string_bytes};
 ghost use Rattle.tez_ports.specs.Content.{Told};
 ghost use Rattle.tez_am.specs.Call.{reads_of, stored_of, writes_of};
 ghost use Rattle.tez_am.specs.Cause.{Cause, Leaves};
@@ -29,6 +29,7 @@ pub fn am_run<F: InputFiles, S: OutputStore, D: JournalDisk, O: TextOut, G: Gate
     _gate: &G,
     _log: &mut Trace,
 ) -> Status
+    requires { _log.old.entries ≡ [] }
     // Each answer has its cause.
     ensures cause { Cause (record {
       words = map string_bytes words.now;
@@ -52,6 +53,7 @@ pub fn am_run<F: InputFiles, S: OutputStore, D: JournalDisk, O: TextOut, G: Gate
     ensures sure_store { S.is_sure store.old → result ≢ Status.DeviceFault Device.Store }
     ensures sure_out { O.is_sure out.old → result ≢ Status.OutFault }
     ensures disk { (D.faults _disk.new ≡ D.faults _disk.old) × (D.stops _disk.new ≡ D.stops _disk.old) × (D.spare _disk.new ≡ D.spare _disk.old) }
+    ensures log { _log.new ≡ _log.old }
 {
     let Some(word) = dag_file(words) else {
         return say(alloc, out, Err(Status::Usage));

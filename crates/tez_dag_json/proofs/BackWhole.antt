@@ -80,9 +80,18 @@ unfolding conf conf_value
 conf_back path c r =
     let nodes : c.nodes ≤ c.nodes * c.per_node = le-mul_of_pos_right c.nodes r.some_places in
     let places : c.per_node ≤ c.nodes * c.per_node = rw (mul_comm c.nodes c.per_node) (le-mul_of_pos_right c.per_node r.some_nodes) in
-    rw (within 0 1000 c.min_src (omega arith) (omega arith), within 0 1000 c.max_src (omega arith) r.thousandths, within 1 1099511627776 c.desired_bytes r.some_bytes r.bytes,
-    within 1 10000 c.min_tasks r.some_tasks r.tasks, within 1 100 c.max_failed r.some_failed r.failed, within 1 100 c.max_masters r.some_masters r.masters,
-    within 1 64 c.nodes r.some_nodes (omega arith), within 1 64 c.per_node r.some_places (omega arith), below_test c.min_src c.max_src r.sources, below_test (c.nodes * c.per_node) 64 r.places)
+    rw (
+      within 0 1000 c.min_src (omega arith) (omega arith),
+      within 0 1000 c.max_src (omega arith) r.thousandths,
+      within 1 1099511627776 c.desired_bytes r.some_bytes r.bytes,
+      within 1 10000 c.min_tasks r.some_tasks r.tasks,
+      within 1 100 c.max_failed r.some_failed r.failed,
+      within 1 100 c.max_masters r.some_masters r.masters,
+      within 1 64 c.nodes r.some_nodes (omega arith),
+      within 1 64 c.per_node r.some_places (omega arith),
+      below_test c.min_src c.max_src r.sources,
+      below_test (c.nodes * c.per_node) 64 r.places,
+    )
 
 some_vertices : (at : Path) (vs : List VertexSpec) → 0 < length vs → unless_empty at vs ≡ Ok vs
 some_vertices at [] some = absurd (omega arith)
@@ -92,5 +101,10 @@ some_vertices at (v ∷ vs) some = refl
 pub document_back : (p : Dag) (c : ConfValues) → IsInRanges p → IsInRange c → document (document_value p c) ≡ Ok (p, c)
 unfolding document document_value conf_of vertices
 document_back p c r range =
-    rw (r.name, conf_back (codes "conf") c range, each_back vertex vertex_value vertex_in_range vertex_back (codes "vertices") 0 p.vertices r.vertices, some_vertices (codes "vertices") p.vertices r.some,
-    each_back edge edge_value edge_in_range edge_back (codes "edges") 0 p.edges r.edges)
+    rw (
+      r.name,
+      conf_back (codes "conf") c range,
+      each_back vertex vertex_value vertex_in_range vertex_back (codes "vertices") 0 p.vertices r.vertices,
+      some_vertices (codes "vertices") p.vertices r.some,
+      each_back edge edge_value edge_in_range edge_back (codes "edges") 0 p.edges r.edges,
+    )

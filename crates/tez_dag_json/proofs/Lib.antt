@@ -6,3 +6,4 @@ pub mod Members
 pub mod Sizes
 pub mod Texts
 pub mod Values
+pub mod Walks

@@ -91,8 +91,16 @@ mutual
   members_length : (later : Bool) (ms : Members) → length (members_text later ms) ≤ members_size ms
   members_length later no_members = omega arith
   members_length later (member k d ms) =
-      omega (arith, comma_length later, quoted_length k, text_length d, members_length true ms, length-append (comma_if later) (quoted k ++ 58 ∷ (compact_text d ++ members_text true ms)),
-      length-append (quoted k) (58 ∷ (compact_text d ++ members_text true ms)), length-append (compact_text d) (members_text true ms))
+      omega (
+        arith,
+        comma_length later,
+        quoted_length k,
+        text_length d,
+        members_length true ms,
+        length-append (comma_if later) (quoted k ++ 58 ∷ (compact_text d ++ members_text true ms)),
+        length-append (quoted k) (58 ∷ (compact_text d ++ members_text true ms)),
+        length-append (compact_text d) (members_text true ms),
+      )
 
 -- of a list whose elements pass a test, and then have at most so much
 pub list_size : {X : Type 0} (value : X → Data) (fits : X → Bool) (most : ℕ) → ((x : X) → fits x ≡ true → size (value x) ≤ most) → (xs : List X) → list_all fits xs ≡ true → items_size (items_of (map value xs)) ≤ (most + 1) * length xs + 1

@@ -69,8 +69,10 @@ edge_no_float_at source target (ScatterGather keys) = rw (cols_no_float keys)
 pub document_no_float : (p : Dag) (c : ConfValues) → has_float (document_value p c) ≡ false
 unfolding document_value conf_value
 document_no_float p c =
-    rw (list_no_float edge_value (λ e. edge_no_float_at e.source e.target e.movement) p.edges,
-    list_no_float vertex_value (λ v. vertex_no_float_at v.name v.tasks v.source v.head v.steps v.sink) p.vertices)
+    rw (
+      list_no_float edge_value (λ e. edge_no_float_at e.source e.target e.movement) p.edges,
+      list_no_float vertex_value (λ v. vertex_no_float_at v.name v.tasks v.source v.head v.steps v.sink) p.vertices,
+    )
 
 -- ---- depth
 
@@ -122,5 +124,8 @@ edge_depth_at source target (ScatterGather keys) = omega (arith, cols_depth keys
 pub document_depth : (p : Dag) (c : ConfValues) → depth (document_value p c) ≤ 6
 unfolding document_value conf_value
 document_depth p c =
-    omega (arith, list_depth edge_value 2 (λ e. edge_depth_at e.source e.target e.movement) p.edges,
-    list_depth vertex_value 4 (λ v. vertex_depth_at v.name v.tasks v.source v.head v.steps v.sink) p.vertices)
+    omega (
+      arith,
+      list_depth edge_value 2 (λ e. edge_depth_at e.source e.target e.movement) p.edges,
+      list_depth vertex_value 4 (λ v. vertex_depth_at v.name v.tasks v.source v.head v.steps v.sink) p.vertices,
+    )

@@ -10,7 +10,6 @@ Answer X = Result X DagFault
 
 infixl 20 ◌>>=◌
 infixl 20 ◌>>◌
-
 -- what is read after the first, if that was no fault
 abbrev pub ◌>>=◌ : {X Y : Type 0} → Answer X → (X → Answer Y) → Answer Y
 ◌>>=◌ (Ok x) next = next x

@@ -1,4 +1,8 @@
 -- The form of a DAG file, as tables: a line for each key of an object, in the order in which the keys are read. The first line that meets a fault ends the walk.
+--     document d       the plan and the configuration that a value says, or its first fault
+--     form bytes       the same of the bytes of a file
+-- Each table is a total function from a value to what it says or to its first fault. So the form and its faults are one definition: a value is of the form exactly where the table answers
+-- `Ok`. A relation 'is of the form' beside a list of checks would say every key twice, and both would have to be proved to agree.
 use Rattle.std.specs.Prelude.{ℕ, ◌*◌, ℤ, Bool, true, false, nat_le, List, [], ◌∷◌, codes, Option, Some, None, unwrap_or, Ok, Err, if◌then◌else◌}
 use Rattle.std.specs.Option.{option_map_or}
 use Rattle.std.specs.Str.{is_utf8}
@@ -199,6 +203,11 @@ abbrev pub balanced : Path → ConfValues → Answer ConfValues
 balanced at c =
     if nat_le c.min_src c.max_src then (if nat_le (c.nodes * c.per_node) 64 then Ok c else out_of_range (at_key at (codes "per_node"))) else out_of_range (at_key at (codes "max_src"))
 
+abbrev pub conf_keys : List (List ℕ)
+conf_keys =
+    codes "min_src" ∷ codes "max_src" ∷ codes "auto_parallel" ∷ codes "desired_bytes" ∷ codes "min_tasks" ∷ codes "max_failed" ∷ codes "max_masters" ∷ codes "reuse" ∷ codes "nodes"
+    ∷ codes "per_node" ∷ []
+
 unfoldable pub conf : Reader ConfValues
 conf at d = do
   an_object at d
@@ -212,7 +221,7 @@ conf at d = do
   reuse ← defaulted (codes "reuse") true flag at d
   nodes ← defaulted (codes "nodes") 2 (whole 1 64) at d
   per_node ← defaulted (codes "per_node") 2 (whole 1 64) at d
-  no_others (codes "min_src" ∷ codes "max_src" ∷ codes "auto_parallel" ∷ codes "desired_bytes" ∷ codes "min_tasks" ∷ codes "max_failed" ∷ codes "max_masters" ∷ codes "reuse" ∷ codes "nodes" ∷ codes "per_node" ∷ []) at d
+  no_others conf_keys at d
   balanced at (record { min_src = min_src; max_src = max_src; auto_parallel = auto_parallel; desired_bytes = desired_bytes; min_tasks = min_tasks; max_failed = max_failed; max_masters = max_masters; reuse = reuse; nodes = nodes; per_node = per_node })
 
 -- a missing configuration is one without keys

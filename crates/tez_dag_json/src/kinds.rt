@@ -11,8 +11,7 @@ ghost use Rattle.tez_dag_json.specs.Kinds.{an_object, required, defaulted, optio
 ghost use Rattle.tez_dag_json.specs.declared.fault.DagFault.TheVariants.{NoMemory, Shape, OutOfRange};
 
 use crate::fault::DagFault;
-use crate::path;
-use crate::words;
+use crate::{path, words};
 use serde_json::{Map, Value};
 use std::alloc::Global;
 use tez_ids::{Bytes, Name};

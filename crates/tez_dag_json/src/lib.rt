@@ -20,5 +20,5 @@ mod write;
 
 pub use fault::DagFault;
 pub use named::word_and_place;
-pub use read::{one_answer_is_due, read_dag};
+pub use read::{form_has_its_faults, one_answer_is_due, read_dag};
 pub use write::dag_text;

@@ -63,7 +63,11 @@ fn is_within(low: usize, high: usize, count: usize) -> bool
 
 /// A list with `low` to `high` elements.
 #[tactic(auto, using(crate::proofs::Texts::length_of_items))]
-pub(crate) fn list_within<T: Element>(at: &At<'_>, low: usize, high: usize) -> Result<Vec<T>, DagFault>
+pub(crate) fn list_within<T: Element>(
+    at: &At<'_>,
+    low: usize,
+    high: usize,
+) -> Result<Vec<T>, DagFault>
     ensures reads { ReadsAs (λ v. v.items) result (reading (list_of_length low high T.reader) at.now) }
     ensures in_range { IfOk result (λ v. IsTrue (list_all T.is_in_range v.items)) }
     ensures length { IfOk result (λ v. IsTrue (within low high (length v.items))) }

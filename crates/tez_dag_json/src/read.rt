@@ -1,12 +1,13 @@
-ghost use Rattle.std.specs.Prelude.{◌≡◌, ◌≢◌, ℕ, List, Some, None, IfOk, IfErr};
+ghost use Rattle.std.specs.Prelude.{◌≡◌, ◌↔◌, ◌≢◌, ℕ, List, Some, None, IfOk, IfErr};
 ghost use Rattle.serde_json.specs.View.{view};
 ghost use Rattle.tez_conf.specs.declared.values.ConfValues.{ConfValues};
 ghost use Rattle.tez_plan.specs.Dag.{Dag};
 ghost use Rattle.tez_plan.specs.Ranges.{IsInRanges};
-ghost use Rattle.tez_dag_json.specs.Due.{IsDue};
+ghost use Rattle.tez_dag_json.specs.Due.{IsDue, IsOfForm};
 ghost use Rattle.tez_dag_json.specs.Answers.{Answer, ReadsAs};
 ghost use Rattle.tez_dag_json.specs.Documents.{contents};
 ghost use Rattle.tez_dag_json.specs.Form.{json, form};
+ghost use Rattle.tez_dag_json.specs.declared.fault.DagFault.{DagFault};
 ghost use Rattle.tez_dag_json.specs.declared.fault.DagFault.TheVariants.{NoMemory, NotJson, Plan as RefusedPlan};
 ghost use Rattle.tez_plan.specs.declared.fault.PlanFault.TheVariants as plan_fault;
 
@@ -73,4 +74,12 @@ pub fn read_dag(alloc: Global, bytes: &[u8]) -> Result<(Plan, Conf), DagFault>
 #[tactic(auto, using(crate::proofs::Due::one_due))]
 pub fn one_answer_is_due()
     ensures { (bytes : List ℕ) (a b : Answer (Dag × ConfValues)) → IsDue bytes a → IsDue bytes b → a ≡ b }
+{}
+
+/// The form of a file has a fault of JSON exactly where the bytes are no JSON text, and beside it
+/// faults of kind and of range alone.
+#[tactic(auto, using(crate::proofs::Walks::form_faults, crate::proofs::Walks::form_not_json, crate::proofs::Walks::not_json_form))]
+pub fn form_has_its_faults()
+    ensures faults { (bytes : List ℕ) (fault : DagFault) → form bytes ≡ Err fault → IsOfForm fault }
+    ensures not_json { (bytes : List ℕ) → (form bytes ≡ Err NotJson) ↔ (json bytes ≡ None) }
 {}

@@ -71,7 +71,5 @@ pub(crate) fn may_be_file(text: &str) -> bool
 pub(crate) fn may_be_sink(text: &str) -> bool
     ensures { result ≡ is_sink text.now }
 {
-    has_length(text, 255)
-        && are_sink_bytes(text.as_bytes())
-        && !begins_with_dot(text.as_bytes())
+    has_length(text, 255) && are_sink_bytes(text.as_bytes()) && !begins_with_dot(text.as_bytes())
 }

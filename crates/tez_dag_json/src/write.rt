@@ -129,7 +129,12 @@ impl ToJson for Step {
 }
 
 /// The text at a key, where there is one.
-fn put_text(alloc: Global, members: &mut Map<String, Value>, key: &str, text: &Option<Name>) -> Result<(), AllocError>
+fn put_text(
+    alloc: Global,
+    members: &mut Map<String, Value>,
+    key: &str,
+    text: &Option<Name>,
+) -> Result<(), AllocError>
     ensures { OnOk result (members_view members.new.entries ≡ with_text key.now text.now (members_view members.old.entries)) }
 {
     match text {
@@ -151,7 +156,12 @@ impl ToJson for VertexSpec {
         let steps = list(alloc, self.steps.as_slice())?;
         let mut members = Map::new(alloc);
         serde_json::put(&mut members, alloc, "head", head(alloc, &self.head)?)?;
-        serde_json::put(&mut members, alloc, "name", Value::try_from_str(alloc, self.name.as_str())?)?;
+        serde_json::put(
+            &mut members,
+            alloc,
+            "name",
+            Value::try_from_str(alloc, self.name.as_str())?,
+        )?;
         serde_json::put(&mut members, alloc, "steps", steps)?;
         serde_json::put(&mut members, alloc, "tasks", Value::from(self.tasks))?;
         put_text(alloc, &mut members, "source", &self.source)?;
@@ -169,8 +179,10 @@ impl ToJson for EdgeSpec {
     fn to_json(&self, alloc: Global) -> Result<Value, AllocError> {
         let (from, to) = (self.source.as_str(), self.target.as_str());
         match &self.movement {
-            Movement::OneToOne => json!(in alloc; {"from": from, "movement": "ONE_TO_ONE", "to": to}),
-            Movement::Broadcast => json!(in alloc; {"from": from, "movement": "BROADCAST", "to": to}),
+            Movement::OneToOne =>
+                json!(in alloc; {"from": from, "movement": "ONE_TO_ONE", "to": to}),
+            Movement::Broadcast =>
+                json!(in alloc; {"from": from, "movement": "BROADCAST", "to": to}),
             Movement::ScatterGather { keys } => {
                 let keys = columns(alloc, keys)?;
                 json!(in alloc; {"from": from, "keys": keys, "movement": "SCATTER_GATHER", "to": to})

@@ -6,7 +6,7 @@ use std::alloc::Global;
 use std::env::{self, Env};
 use std::io::{self, ErrorKind};
 use std::process::ExitCode;
-use tez_am::{Status, am_run, exit_code};
+use tez_am::{Status, am_run, am_tool, exit_code};
 use tez_events::Trace;
 use tez_ports::TextOut;
 use tez_ports_real::{FolderFiles, FolderStore, NoDisk, QuietGate, StdOut};
@@ -34,6 +34,9 @@ fn main(rt: HostRuntime) -> ExitCode {
         return ExitCode::from(exit_code(&Status::NoMemory));
     };
     let mut files = FolderFiles::new(alloc, &rt);
+    if let Some(status) = am_tool(alloc, &words, &mut files, &mut out) {
+        return ExitCode::from(exit_code(&status));
+    }
     let mut store = FolderStore::new(alloc, &rt);
     let mut disk = NoDisk::new();
     let status = am_run(
@@ -44,7 +47,7 @@ fn main(rt: HostRuntime) -> ExitCode {
         &mut disk,
         &mut out,
         &QuietGate {},
-        &mut Trace::new(),
+        &mut Trace::new(alloc),
     );
     ExitCode::from(exit_code(&status))
 }

@@ -1,5 +1,5 @@
 use Rattle.std.proofs.Common.{Err, ap}
-use Rattle.tez_am.proofs.Contents.{content_whole, content_large, missing_refusal}
+use Rattle.tez_am.proofs.Contents.{content_whole, large_refusal, missing_refusal}
 use Rattle.tez_am.proofs.input.input.Goals as goal
 
 pub returns-in-Ok-clause-bytes : goal.returns-in-Ok-clause-bytes
@@ -9,4 +9,4 @@ pub returns-in-Err-Missing-clause-refusal : goal.returns-in-Err-Missing-clause-r
 returns-in-Err-Missing-clause-refusal g c = missing_refusal _ _ _ _ (c.in-Err-Missing.ensures.missing (ap Err c.in-Err-Missing.field-0-is)) c.missing.ensures
 
 pub returns-in-Err-TooLarge-clause-refusal : goal.returns-in-Err-TooLarge-clause-refusal
-returns-in-Err-TooLarge-clause-refusal g c m t = content_large _ _ m (c.in-Err-TooLarge.ensures.too_large (ap Err c.in-Err-TooLarge.field-0-is) m t)
+returns-in-Err-TooLarge-clause-refusal g c = large_refusal _ _ _ _ (c.in-Err-TooLarge.ensures.too_large (ap Err c.in-Err-TooLarge.field-0-is)) c.too_large.ensures
