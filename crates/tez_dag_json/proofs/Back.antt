@@ -1,5 +1,5 @@
 -- What is written reads back: the parts of a plan.
-use Rattle.std.proofs.Common.{◌≡◌, ℕ, suc, ◌+◌, ◌≤◌, ◌==◌, pos, negsuc, ℤ, Bool, true, false, ◌&&◌, nat_le, List, [], ◌∷◌, length, map, Option, Some, None, codes, Ok, refl, ap, sym, ◌∙◌, arith}
+use Rattle.std.proofs.Common.{◌≡◌, ℕ, suc, ◌+◌, pos, negsuc, ℤ, Bool, true, nat_le, List, [], ◌∷◌, length, map, codes, Ok, refl, ap, arith}
 use Rattle.std.proofs.lemmas.Bool.{and_parts}
 use Rattle.std.specs.List.{list_all}
 use Rattle.std.specs.Str.{is_utf8}
@@ -10,11 +10,10 @@ use Rattle.tez_plan.specs.declared.parts.Head.{Head}
 use Rattle.tez_plan.specs.declared.parts.Head.TheVariants.{Each, Sum, Count, Distinct, Join, Lookup, KeepIn, DropIn}
 use Rattle.tez_plan.specs.declared.parts.Step.{Step}
 use Rattle.tez_plan.specs.declared.parts.Step.TheVariants.{Tokenise, Filter, Project}
-use Rattle.tez_plan.specs.declared.parts.Test.{Test}
 use Rattle.tez_plan.specs.declared.parts.Test.TheVariants.{Eq, Ne, Contains, Lt, Gt}
-use Rattle.tez_plan.specs.Ranges.{is_within, is_name, is_column, are_columns, is_number, is_filter_text, head_in_range, step_in_range}
+use Rattle.tez_plan.specs.Ranges.{is_within, is_column, are_columns, is_number, is_filter_text, head_in_range, step_in_range}
 use Rattle.tez_dag_json.specs.Paths.{Path, at_key, at_place}
-use Rattle.tez_dag_json.specs.Kinds.{Reader, whole, number, word, text_of, each, list, list_within}
+use Rattle.tez_dag_json.specs.Kinds.{Reader, number, each, list_within}
 use Rattle.tez_dag_json.specs.Form.{column, columns, plain_head, sum_head, join_head, two_keys, lookup_head, keep_in_head, drop_in_head, heads, head, tokenise_step, text_test, number_test, tests, filter_test, filter_step, project_step, steps, step}
 use Rattle.tez_dag_json.specs.Canonical.{count, signed, list_of, cols_value, head_value, step_value}
 

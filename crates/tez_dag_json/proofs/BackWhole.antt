@@ -1,5 +1,5 @@
 -- What is written reads back: vertices, edges, the configuration and the document.
-use Rattle.std.proofs.Common.{◌≡◌, ℕ, ◌*◌, ◌≤◌, ◌<◌, Bool, true, ◌&&◌, nat_le, List, [], ◌∷◌, length, Option, Some, None, codes, Ok, refl, arith}
+use Rattle.std.proofs.Common.{◌≡◌, ℕ, ◌*◌, ◌≤◌, ◌<◌, true, ◌&&◌, nat_le, List, [], ◌∷◌, length, Option, Some, None, codes, Ok, refl, arith}
 use Rattle.std.proofs.Math.Nat.{le-mul_of_pos_right, mul_comm}
 use Rattle.std.proofs.lemmas.Bool.{and_parts}
 use Rattle.std.specs.List.{list_all}
@@ -13,11 +13,11 @@ use Rattle.tez_plan.specs.declared.parts.Step.{Step}
 use Rattle.tez_plan.specs.declared.parts.Movement.{Movement}
 use Rattle.tez_plan.specs.declared.parts.Movement.TheVariants.{OneToOne, Broadcast, ScatterGather}
 use Rattle.tez_plan.specs.Dag.{Dag}
-use Rattle.tez_plan.specs.Ranges.{is_within, is_name, is_file, is_sink, are_columns, head_in_range, step_in_range, are_steps, vertex_in_range, movement_in_range, edge_in_range, IsInRanges}
+use Rattle.tez_plan.specs.Ranges.{is_within, is_name, is_file, is_sink, head_in_range, step_in_range, are_steps, vertex_in_range, movement_in_range, edge_in_range, IsInRanges}
 use Rattle.tez_dag_json.specs.Paths.{Path, at_key}
 use Rattle.tez_dag_json.specs.Kinds.{list_within}
-use Rattle.tez_dag_json.specs.Form.{head, step, vertex, unless_empty, vertices, keyless, by_keys, movements, movement, edge, conf, conf_of, document}
-use Rattle.tez_dag_json.specs.Canonical.{list_of, head_value, step_value, vertex_value, edge_value, conf_value, document_value}
+use Rattle.tez_dag_json.specs.Form.{step, vertex, unless_empty, vertices, keyless, by_keys, movements, movement, edge, conf, conf_of, document}
+use Rattle.tez_dag_json.specs.Canonical.{list_of, step_value, vertex_value, edge_value, conf_value, document_value}
 use Rattle.tez_dag_json.proofs.Back.{head_back, step_back, columns_back, list_within_back, each_back}
 
 steps_back : (path : Path) (ss : List Step) → are_steps ss ≡ true → list_within 0 64 step path (list_of step_value ss) ≡ Ok ss

@@ -1,9 +1,8 @@
 -- The canonical text is shorter than 2 ^ 23 bytes: a step has at most 1800 bytes, a vertex 120200, an edge 1520.
-use Rattle.std.proofs.Common.{◌≡◌, ℕ, suc, ◌+◌, ◌*◌, ◌≤◌, ◌<◌, ◌^◌, ◌&&◌, ◌||◌, ◌==◌, ℤ, pos, negsuc, Bool, true, false, nat_le, nat_lt, List, [], ◌∷◌, length, map, Option, Some, None, IsTrue, codes, refl, rules, arith}
+use Rattle.std.proofs.Common.{◌≡◌, ℕ, ◌+◌, ◌*◌, ◌≤◌, ◌<◌, ◌^◌, ◌&&◌, true, nat_le, nat_lt, List, length, map, Option, Some, None, arith}
 use Rattle.std.proofs.lemmas.Bool.{and_parts}
 use Rattle.std.specs.List.{list_all}
 use Rattle.std.specs.Str.{is_utf8}
-use Rattle.serde_json.specs.Data.{Data}
 use Rattle.serde_json.specs.View.{items_of}
 use Rattle.serde_json.specs.Written.{compact_text}
 use Rattle.tez_conf.specs.declared.values.ConfValues.{ConfValues}
@@ -15,12 +14,11 @@ use Rattle.tez_plan.specs.declared.parts.Movement.{Movement}
 use Rattle.tez_plan.specs.declared.parts.Movement.TheVariants.{OneToOne, Broadcast, ScatterGather}
 use Rattle.tez_plan.specs.declared.parts.Step.{Step}
 use Rattle.tez_plan.specs.declared.parts.Step.TheVariants.{Tokenise, Filter, Project}
-use Rattle.tez_plan.specs.declared.parts.Test.{Test}
 use Rattle.tez_plan.specs.declared.parts.Test.TheVariants.{Eq, Ne, Contains, Lt, Gt}
 use Rattle.tez_plan.specs.Dag.{Dag}
-use Rattle.tez_plan.specs.Ranges.{is_within, is_name, is_file, is_sink, is_name_byte, is_file_byte, is_sink_byte, begins_with_dot, is_column, are_columns, is_filter_text, is_number, head_in_range, step_in_range, test_in_range, are_steps, vertex_in_range, movement_in_range, edge_in_range, IsInRanges}
-use Rattle.tez_plan.specs.Faults.{IsValid, checks, too_many_parts}
-use Rattle.tez_dag_json.specs.Canonical.{count, list_of, cols_value, head_value, step_value, test_value, test_word, vertex_value, edge_value, conf_value, document_value, canonical}
+use Rattle.tez_plan.specs.Ranges.{is_within, is_name, is_file, is_sink, is_name_byte, is_file_byte, is_sink_byte, is_column, are_columns, is_filter_text, head_in_range, step_in_range, are_steps, vertex_in_range, movement_in_range, edge_in_range, IsInRanges}
+use Rattle.tez_plan.specs.Faults.{IsValid, checks}
+use Rattle.tez_dag_json.specs.Canonical.{count, head_value, step_value, vertex_value, edge_value, conf_value, document_value, canonical}
 use Rattle.tez_dag_json.proofs.BackWhole.{Parts, parts_of}
 use Rattle.tez_dag_json.proofs.Sizes.{size, items_size, text_length, list_size}
 

@@ -8,7 +8,7 @@ use Rattle.tez_plan.specs.Dag.{Dag}
 use Rattle.tez_plan.specs.Ranges.{IsInRanges}
 use Rattle.tez_plan.specs.Faults.{IsValid, IsFirstFault}
 use Rattle.tez_plan.proofs.CheckLemmas.{same_fault, no_fault}
-use Rattle.tez_dag_json.specs.Form.{json, form}
+use Rattle.tez_dag_json.specs.Form.{form}
 use Rattle.tez_dag_json.specs.Canonical.{document_value}
 use Rattle.tez_dag_json.specs.Due.{Judges, IsDue}
 use Rattle.tez_dag_json.specs.Answers.{Answer}

@@ -1,6 +1,6 @@
 -- The members of a vertex, in the order of their keys.
 use Rattle.std.proofs.Common.{◌≡◌, ℕ, List, Option, Some, None, codes, refl}
-use Rattle.serde_json.specs.Data.{Data, Members, no_members, member}
+use Rattle.serde_json.specs.Data.{Data, no_members, member}
 use Rattle.tez_dag_json.specs.Canonical.{if_there, with_text}
 
 pub with_texts : (head name steps tasks : Data) (source sink : Option (List ℕ))

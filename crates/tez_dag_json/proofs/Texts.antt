@@ -1,5 +1,5 @@
 -- Texts of the file, and keys of its objects.
-use Rattle.std.proofs.Common.{◌≡◌, nat_le, ℕ, Result, Ok, Err, MatchResult, IsOk, Option, Some, None, false, cond, sym, ◌≤◌, List, [], ◌∷◌, length, Bool, true, ◌||◌, map, IsTrue, refl, ap, arith}
+use Rattle.std.proofs.Common.{◌≡◌, nat_le, ℕ, Result, Ok, Err, MatchResult, IsOk, Some, None, false, cond, ◌≤◌, List, [], ◌∷◌, length, Bool, true, ◌||◌, map, IsTrue, refl, ap, arith}
 use Rattle.std.proofs.lemmas.Bool.{and_parts}
 use Rattle.std.proofs.lemmas.Str.{is_utf8-from_IsUtf8, IsUtf8-from_is_utf8}
 use Rattle.std.specs.List.{list_any, list_all}

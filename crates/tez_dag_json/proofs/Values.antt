@@ -1,11 +1,9 @@
 -- The canonical value has no float, and nests six deep at most.
-use Rattle.std.proofs.Common.{◌≡◌, ℕ, suc, ◌≤◌, ◌||◌, pos, negsuc, ℤ, max, Bool, true, false, List, [], ◌∷◌, map, Option, Some, None, refl, arith}
-use Rattle.serde_json.specs.Data.{Data, Items, no_items, item, depth, items_depth}
+use Rattle.std.proofs.Common.{◌≡◌, ℕ, ◌≤◌, pos, negsuc, ℤ, false, List, [], ◌∷◌, map, Option, Some, None, refl, arith}
+use Rattle.serde_json.specs.Data.{Data, depth, items_depth}
 use Rattle.serde_json.specs.View.{items_of}
 use Rattle.serde_json.specs.Written.{has_float, items_have_float}
 use Rattle.tez_conf.specs.declared.values.ConfValues.{ConfValues}
-use Rattle.tez_plan.specs.declared.parts.VertexSpec.{VertexSpec}
-use Rattle.tez_plan.specs.declared.parts.EdgeSpec.{EdgeSpec}
 use Rattle.tez_plan.specs.declared.parts.Head.{Head}
 use Rattle.tez_plan.specs.declared.parts.Head.TheVariants.{Each, Sum, Count, Distinct, Join, Lookup, KeepIn, DropIn}
 use Rattle.tez_plan.specs.declared.parts.Movement.{Movement}
@@ -15,7 +13,7 @@ use Rattle.tez_plan.specs.declared.parts.Step.TheVariants.{Tokenise, Filter, Pro
 use Rattle.tez_plan.specs.declared.parts.Test.{Test}
 use Rattle.tez_plan.specs.declared.parts.Test.TheVariants.{Eq, Ne, Contains, Lt, Gt}
 use Rattle.tez_plan.specs.Dag.{Dag}
-use Rattle.tez_dag_json.specs.Canonical.{count, signed, list_of, cols_value, head_value, step_value, test_value, vertex_value, edge_value, conf_value, document_value}
+use Rattle.tez_dag_json.specs.Canonical.{count, signed, head_value, step_value, test_value, vertex_value, edge_value, conf_value, document_value}
 
 list_no_float : {X : Type 0} (value : X → Data) → ((x : X) → has_float (value x) ≡ false) → (xs : List X) → items_have_float (items_of (map value xs)) ≡ false
 list_no_float value none [] = refl

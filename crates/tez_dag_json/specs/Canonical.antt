@@ -1,6 +1,6 @@
 -- The canonical text of a plan and its configuration: compact JSON, the keys of each object in byte order, every key written but for a source or a sink that is missing.
-use Rattle.std.specs.Prelude.{ℕ, ℤ, Bool, List, [], ◌∷◌, map, codes, Option, Some, None}
-use Rattle.serde_json.specs.Data.{Data, boolean, number, string, array, object, Num, unsigned, Members, no_members, member, put}
+use Rattle.std.specs.Prelude.{ℕ, ℤ, List, map, codes, Option, Some, None}
+use Rattle.serde_json.specs.Data.{Data, boolean, number, string, array, object, unsigned, Members, no_members, member, put}
 use Rattle.serde_json.specs.Find.{of_integer}
 use Rattle.serde_json.specs.View.{items_of}
 use Rattle.serde_json.specs.Written.{compact_text}

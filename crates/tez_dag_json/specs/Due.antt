@@ -1,5 +1,5 @@
 -- What is answered to the bytes of a file.
-use Rattle.std.specs.Prelude.{◌≡◌, ⊤, List, ℕ, Result, Ok, Err}
+use Rattle.std.specs.Prelude.{◌≡◌, ⊤, List, ℕ, Ok, Err}
 use Rattle.tez_conf.specs.declared.values.ConfValues.{ConfValues}
 use Rattle.tez_plan.specs.Dag.{Dag}
 use Rattle.tez_plan.specs.declared.fault.PlanFault.{PlanFault}

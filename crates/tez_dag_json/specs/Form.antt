@@ -3,7 +3,7 @@
 --     form bytes       the same of the bytes of a file
 -- Each table is a total function from a value to what it says or to its first fault. So the form and its faults are one definition: a value is of the form exactly where the table answers
 -- `Ok`. A relation 'is of the form' beside a list of checks would say every key twice, and both would have to be proved to agree.
-use Rattle.std.specs.Prelude.{ℕ, ◌*◌, ℤ, Bool, true, false, nat_le, List, [], ◌∷◌, codes, Option, Some, None, unwrap_or, Ok, Err, if◌then◌else◌}
+use Rattle.std.specs.Prelude.{ℕ, ◌*◌, ℤ, true, false, nat_le, List, [], ◌∷◌, codes, Option, None, unwrap_or, Ok, Err, if◌then◌else◌}
 use Rattle.std.specs.Option.{option_map_or}
 use Rattle.std.specs.Str.{is_utf8}
 use Rattle.serde_json.specs.Data.{Data, object, no_members}

@@ -2,7 +2,7 @@
 --     text, word fits, whole low high, number, flag, list read      a value of this kind
 --     required, optional, defaulted, chosen                         the value at a key of an object
 --     no_others                                                     the object has no further key
-use Rattle.std.specs.Prelude.{◌≡◌, ℕ, ◌+◌, ◌≤◌, ℤ, pos, negsuc, Bool, true, false, ◌&&◌, nat_le, List, [], ◌∷◌, ◌++◌, length, Option, Some, None, option_map, option_and_then, Ok, if◌then◌else◌, is_some}
+use Rattle.std.specs.Prelude.{ℕ, ◌+◌, ℤ, pos, negsuc, Bool, true, false, ◌&&◌, nat_le, List, [], ◌∷◌, length, Option, Some, None, option_and_then, Ok, if◌then◌else◌, is_some}
 use Rattle.std.specs.List.{list_any}
 use Rattle.std.specs.Map.{lookup}
 use Rattle.std.specs.Option.{option_map_or}
@@ -11,7 +11,7 @@ use Rattle.serde_json.specs.Data.{Data, Items, no_items, item, Members, no_membe
 use Rattle.serde_json.specs.Events.{items_len}
 use Rattle.serde_json.specs.Find.{get, as_str, as_bool, as_number, as_integer, as_array, as_object}
 use Rattle.tez_plan.specs.Ranges.{is_within, is_number}
-use Rattle.tez_dag_json.specs.Answers.{Answer, ◌>>=◌, ◌>>◌}
+use Rattle.tez_dag_json.specs.Answers.{Answer, ◌>>=◌}
 use Rattle.tez_dag_json.specs.Paths.{Path, at_key, at_place, shape, out_of_range}
 
 -- how a value, at its path, is read
