@@ -1,0 +1,4 @@
+pub mod Jobs
+pub mod Value
+pub mod Published
+pub mod Known

@@ -1,0 +1,6 @@
+use Rattle.std.proofs.Common.{◌≡◌, take}
+use Rattle.tez_operators.specs.Process.{is_left, records_of}
+use Rattle.tez_operators.proofs.sides.left_records.Given as goal
+
+abbrev pub invariant-loop-source : goal.invariant-loop-source
+invariant-loop-source l = l.records ≡ records_of (is_left l.fn.head l.fn.keys) (take l.source-index l.parts)

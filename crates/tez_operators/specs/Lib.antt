@@ -1,0 +1,5 @@
+pub mod Process
+pub mod Totals
+pub mod Groups
+pub mod Members
+pub mod Words

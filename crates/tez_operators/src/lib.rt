@@ -1,0 +1,21 @@
+//! Heads and steps as programs: what a task makes of lists that were cut and routed.
+#![tactic(auto)]
+
+mod bad;
+mod fault;
+mod group_key;
+mod groups;
+mod heads;
+mod inputs;
+mod members;
+mod program;
+mod sides;
+mod steps;
+#[cfg(test)]
+mod tests;
+mod totals;
+mod words;
+
+pub use fault::ProcessFault;
+pub use inputs::{Inputs, Primary};
+pub use program::process;

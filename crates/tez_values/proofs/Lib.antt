@@ -1,0 +1,4 @@
+pub mod StepLemmas
+pub mod HeadLemmas
+pub mod SameLemmas
+pub mod BadLemmas
