@@ -1,0 +1,3 @@
+pub mod DealLemmas
+pub mod PartitionLemmas
+pub mod Rows
