@@ -1,0 +1,5 @@
+pub mod CutLemmas
+pub mod IndexLemmas
+pub mod Rows
+pub mod ShelfLemmas
+pub mod SlotLemmas

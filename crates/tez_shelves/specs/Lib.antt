@@ -1,0 +1,4 @@
+pub mod Piece
+pub mod Cut
+pub mod Shelf
+pub mod Slots

@@ -1,0 +1,12 @@
+//! The pieces that attempts made, on the shelves of the nodes where they ran.
+#![tactic(auto)]
+
+mod index;
+mod pieces;
+mod shelves;
+mod slots;
+#[cfg(test)]
+mod tests;
+
+pub use pieces::{Piece, Pieces, pieces_new};
+pub use shelves::Shelves;
