@@ -1,0 +1,5 @@
+mod IndexLemmas
+mod PlaceLemmas
+mod PoolLemmas
+mod TournamentLemmas
+mod VictimLemmas

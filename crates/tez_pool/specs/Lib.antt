@@ -1,0 +1,6 @@
+pub mod Index
+pub mod Kept
+pub mod State
+pub mod Table
+pub mod Tournament
+pub mod Victim
