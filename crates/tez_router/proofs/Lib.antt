@@ -1,0 +1,4 @@
+mod Ordered
+mod Ranges
+mod Spans
+mod Firsts

@@ -1,0 +1,6 @@
+pub mod State
+pub mod Table
+pub mod Planned
+pub mod Order
+pub mod Kept
+pub mod Span

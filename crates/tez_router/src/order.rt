@@ -1,0 +1,68 @@
+// Admitted attempts in the order of their tasks.
+ghost use Rattle.std.specs.Prelude.{◌≡◌, ◌≤◌, true, false, length, IfSome, IfNone, OnOk, OnErr};
+ghost use Rattle.tez_router.specs.Table.{before, admit_in};
+ghost use Rattle.tez_router.specs.Order.{AreInOrder, IsPlaceOf, IsOnly, IsNowhere, IsAt, IsNotAt, IsTaskAt, IsNotTaskAt};
+
+use crate::admitted::Admitted;
+use std::alloc::AllocError;
+use tez_ids::{AttemptId, TaskId};
+
+fn comes_before(s: TaskId, t: TaskId) -> bool
+    ensures { result ≡ before s t }
+{
+    s.vertex.0 < t.vertex.0 || (s.vertex.0 == t.vertex.0 && s.index < t.index)
+}
+
+/// How many of the attempts are at tasks before this one. Logarithmic.
+pub fn place_of(admitted: &[Admitted], task: TaskId) -> usize
+    requires { AreInOrder admitted.now }
+    ensures inside { result ≤ length admitted.now }
+    ensures place { IsPlaceOf admitted.now task result }
+{
+    admitted.partition_point(|x| comes_before(x.attempt().task, task))
+}
+
+fn is_at(admitted: &[Admitted], at: usize, attempt: AttemptId) -> bool
+    ensures yes { result ≡ true → IsAt admitted.now attempt at }
+    ensures no { result ≡ false → IsNotAt admitted.now attempt at }
+{
+    at < admitted.len() && admitted[at].attempt() == attempt
+}
+
+fn is_task_at(admitted: &[Admitted], at: usize, task: TaskId) -> bool
+    ensures yes { result ≡ true → IsTaskAt admitted.now task at }
+    ensures no { result ≡ false → IsNotTaskAt admitted.now task at }
+{
+    at < admitted.len() && admitted[at].attempt().task == task
+}
+
+/// Where the attempt stands. Logarithmic.
+pub fn find(admitted: &[Admitted], attempt: AttemptId) -> Option<usize>
+    requires { AreInOrder admitted.now }
+    ensures some { IfSome result (λ at. IsOnly admitted.now attempt at) }
+    ensures none { IfNone result (IsNowhere admitted.now attempt) }
+{
+    let at = place_of(admitted, attempt.task);
+    if is_at(admitted, at, attempt) {
+        Some(at)
+    } else {
+        None
+    }
+}
+
+/// Admits an attempt in the order of tasks, in place of another one of its task.
+pub fn put(admitted: &mut Vec<Admitted>, x: Admitted) -> Result<(), AllocError>
+    requires { AreInOrder admitted.old.items }
+    ensures put { OnOk result (admitted.new.items ≡ admit_in x admitted.old.items) }
+    ensures refused { OnErr result (admitted.new.items ≡ admitted.old.items) }
+    ensures order { AreInOrder admitted.new.items }
+{
+    let task = x.attempt().task;
+    let at = place_of(admitted.as_slice(), task);
+    if is_task_at(admitted.as_slice(), at, task) {
+        admitted[at] = x;
+        return Ok(());
+    }
+    admitted.insert(at, x)?;
+    Ok(())
+}

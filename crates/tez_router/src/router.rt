@@ -1,0 +1,227 @@
+ghost use Rattle.std.specs.Prelude.{◌≡◌, None, Some, map, slice_get, IfOk, OnOk, OnErr, IsTrue, length};
+ghost use Rattle.std.specs.List.{list_all};
+ghost use Rattle.tez_lists.specs.Tables.{set_in};
+ghost use Rattle.tez_router.specs.State.{routing_of};
+ghost use Rattle.tez_router.specs.Planned.{planned_router};
+ghost use Rattle.tez_router.specs.Table.{source_in, after_announce, after_withdraw, after_admit, after_dismiss, after_fetched, fetched_in, missing_in, with_routing, restart_by, after_set_edge, can_restart_by, can_set_edge, notices_in, without, fetches_in, first_complete};
+
+use crate::admitted::Admitted;
+use crate::fetches::{Fetch, first_complete, first_fetch};
+use crate::link::Link;
+use crate::notice::Notice;
+use crate::notices::{Loss, notices_of};
+use crate::order::{find, put};
+use crate::planned::{planned_links, planned_rows};
+use crate::winners::{Row, winner_at};
+use std::alloc::{AllocError, Global};
+use std::marker::Model;
+use tez_edges::Manager;
+use tez_ids::{AttemptId, EdgeId, TaskId};
+use tez_plan::Plan;
+
+/// The edges with their managers, the winners, and what each waiting attempt has fetched.
+#[derive(Drop)]
+pub struct Router {
+    links: Vec<Link>,
+    winners: Vec<Row>,
+    admitted: Vec<Admitted>,
+}
+
+impl Model for Router {
+    ghost use Rattle.tez_router.specs.State.{RouterState};
+    ghost use Rattle.tez_router.specs.Kept.{IsKept};
+
+    ghost Value = { RouterState };
+
+    ghost view = { λ r. record { links = r.links.items; winners = r.winners.items; admitted = r.admitted.items } };
+
+    ghost invariant = { λ r. IsKept r.links.items r.admitted.items };
+}
+
+fn set_winner(rows: &mut [Row], task: TaskId, winner: Option<AttemptId>)
+    ensures { rows.new ≡ set_in rows.old task.vertex.0 task.index winner }
+{
+    let v = task.vertex.0 as usize;
+    if v < rows.len() {
+        rows[v].set(task.index, winner);
+    }
+}
+
+fn set_manager(links: &mut [Link], edge: EdgeId, manager: Manager)
+    ensures { links.new ≡ with_routing links.old edge.0 (routing_of manager) }
+{
+    let e = edge.0 as usize;
+    if e < links.len() {
+        links[e].set_manager(manager);
+    }
+}
+
+fn restart_all(admitted: &mut [Admitted], edge: EdgeId, manager: Manager)
+    requires { IsTrue (list_all (can_restart_by edge.0 (routing_of manager)) admitted.old) }
+    ensures { admitted.new ≡ map (restart_by edge.0 (routing_of manager)) admitted.old }
+{
+    for x in admitted.iter_mut() {
+        x.restart(edge, manager);
+    }
+}
+
+impl Router {
+    /// The router of a plan: no task has a winner, no attempt is admitted, and each edge has the
+    /// manager of the plan's task counts, a scatter-gather edge with base 1.
+    pub fn new(alloc: Global, p: &Plan) -> Result<Self, AllocError>
+        ensures { IfOk result (λ r. r ≡ planned_router p.now) }
+    {
+        Ok(Router {
+            links: planned_links(alloc, p)?,
+            winners: planned_rows(alloc, p.vertices())?,
+            admitted: Vec::new(alloc),
+        })
+    }
+
+    /// Whether an edge may get this manager: each admitted attempt that reads the edge has fetched
+    /// nothing over it, and gets no more inputs than it had, so that the room it has is enough.
+    pub fn can_set_edge(&self, e: EdgeId, m: Manager) -> bool
+        ensures { result ≡ can_set_edge self.now e.0 (routing_of m) }
+    {
+        self.admitted.iter().all(|x| x.can_restart(e, m))
+    }
+
+    /// Gives an edge another manager. The inputs of the attempts that read it are then those of the
+    /// new manager, none of them fetched.
+    pub fn set_edge(&mut self, e: EdgeId, m: Manager)
+        requires { IsTrue (can_set_edge self.old e.0 (routing_of m)) }
+        ensures { self.new ≡ after_set_edge self.old e.0 (routing_of m) }
+    {
+        set_manager(self.links.as_mut_slice(), e, m);
+        restart_all(self.admitted.as_mut_slice(), e, m);
+    }
+
+    /// The attempt is its task's winner, for each consumer that is admitted now or later.
+    pub fn announce(&mut self, winner: AttemptId)
+        ensures { self.new ≡ after_announce self.old winner }
+    {
+        set_winner(self.winners.as_mut_slice(), winner.task, Some(winner));
+    }
+
+    /// The task has no winner any more.
+    pub fn withdraw(&mut self, t: TaskId)
+        ensures { self.new ≡ after_withdraw self.old t }
+    {
+        set_winner(self.winners.as_mut_slice(), t, None);
+    }
+
+    /// The attempt waits from now on, and has fetched nothing. Takes the room that its fetches need,
+    /// in whatever order they come, but does no work for each input. An attempt of the same task
+    /// that was admitted before is dismissed.
+    pub fn admit(&mut self, alloc: Global, a: AttemptId) -> Result<(), AllocError>
+        ensures admitted { OnOk result (self.new ≡ after_admit self.old a) }
+        ensures refused { OnErr result (self.new ≡ self.old) }
+    {
+        let x = Admitted::new(alloc, self.links.as_slice(), a)?;
+        put(&mut self.admitted, x)
+    }
+
+    /// The attempt waits no more.
+    pub fn dismiss(&mut self, a: AttemptId)
+        ensures { self.new ≡ after_dismiss self.old a }
+    {
+        if let Some(at) = find(self.admitted.as_slice(), a) {
+            self.admitted.remove(at);
+        }
+    }
+
+    /// Whose output the input is. None where the task that makes it has no winner, or where there is
+    /// no such input.
+    pub fn source_of(&self, a: AttemptId, e: EdgeId, input: u32) -> Option<AttemptId>
+        ensures { result ≡ source_in self.now a e.0 input }
+    {
+        match self.links.get(e.0 as usize) {
+            Some(link) => match link.source_task(a.task.index, input) {
+                Some(task) => winner_at(self.winners.as_slice(), task),
+                None => None,
+            },
+            None => None,
+        }
+    }
+
+    /// The attempt has fetched the input. From whom is not kept.
+    pub fn fetched(&mut self, a: AttemptId, e: EdgeId, input: u32, _winner: AttemptId)
+        ensures { self.new ≡ after_fetched self.old a e.0 input }
+    {
+        if let Some(at) = find(self.admitted.as_slice(), a) {
+            self.admitted[at].fetch(e, input);
+        }
+    }
+
+    /// False for an attempt that is not admitted. Logarithmic in the admitted attempts and the runs
+    /// of its inputs, linear in the edges into its vertex.
+    pub fn is_fetched(&self, a: AttemptId, e: EdgeId, input: u32) -> bool
+        ensures { result ≡ fetched_in self.now a e.0 input }
+    {
+        match find(self.admitted.as_slice(), a) {
+            Some(at) => self.admitted[at].has(e, input),
+            None => false,
+        }
+    }
+
+    /// How many inputs the attempt has not fetched. 0 for an attempt that is not admitted.
+    pub fn missing(&self, a: AttemptId) -> u64
+        ensures { result ≡ missing_in self.now a }
+    {
+        match find(self.admitted.as_slice(), a) {
+            Some(at) => self.admitted[at].missing(),
+            None => 0,
+        }
+    }
+
+    /// One notice for each admitted attempt and input that it has not fetched and that leads back to
+    /// the task, in the order of the attempts' tasks, then of edges, then of inputs. There is none
+    /// where the task has no winner. Takes time in the admitted attempts, and in the inputs of
+    /// theirs that lead back to the task.
+    pub fn notices(&self, alloc: Global, t: TaskId) -> Result<Vec<Notice>, AllocError>
+        ensures { IfOk result (λ found. found.items ≡ notices_in self.now t) }
+    {
+        self.notices_except(alloc, t, &[])
+    }
+
+    /// The notices that there are once these attempts are dismissed.
+    pub fn notices_except(
+        &self,
+        alloc: Global,
+        t: TaskId,
+        ended: &[AttemptId],
+    ) -> Result<Vec<Notice>, AllocError>
+        ensures { IfOk result (λ found. found.items ≡ notices_in (without self.now ended.now) t) }
+    {
+        match winner_at(self.winners.as_slice(), t) {
+            Some(lost) => notices_of(
+                alloc,
+                self.links.as_slice(),
+                self.admitted.as_slice(),
+                Loss { task: t, lost },
+                ended,
+            ),
+            None => Ok(Vec::new(alloc)),
+        }
+    }
+
+    /// The first fetch that can be made: the input was not fetched, and its source task has a winner.
+    /// The first is that of the least task, then of the least edge, then of the least input. Takes
+    /// time in the inputs that come before it, but for those that were fetched first and in order.
+    pub fn next_fetch(&self) -> Option<Fetch>
+        ensures { result ≡ slice_get (fetches_in self.now) 0 }
+    {
+        first_fetch(
+            self.links.as_slice(),
+            self.winners.as_slice(),
+            self.admitted.as_slice(),
+        )
+    }
+
+    /// The first attempt, in the order of tasks, that has fetched all its inputs.
+    pub fn next_complete(&self) -> Option<AttemptId>
+        ensures { result ≡ first_complete self.now.admitted }
+    {
+        first_complete(self.admitted.as_slice())
+    }
+}
