@@ -1,17 +1,14 @@
--- From the reads and the DAG file to a plan, a form and a job; and that each is one.
-use Rattle.std.proofs.Common.{◌≡◌, ◌⊎◌, ℕ, ◌≤◌, List, Option, Some, None, Result, Ok, Err, refl, inl, inr, ◌∙◌, sym, subst, ap}
-use Rattle.std.specs.Option.{ok_or}
+-- From the reads and the DAG file to a plan and a job; and that each is one.
+use Rattle.std.proofs.Common.{◌≡◌, ◌⊎◌, ℕ, ◌≤◌, true, false, List, Option, Some, None, Result, Ok, Err, refl, inl, inr, ◌∙◌, sym, subst, ap}
 use Rattle.tez_dag_json.specs.Due.{IsDue}
 use Rattle.tez_dag_json.specs.declared.fault.DagFault.{DagFault}
 use Rattle.tez_dag_json.proofs.Due.{one_due}
 use Rattle.tez_ports.specs.Content.{Named, Told}
-use Rattle.tez_am.specs.Accept.{Planned, and_then, Next, content, IsContent, dag_limit, source_limit, dag_bytes, IsDagOf, IsDag, planned_form, planned_job, form_job, with_source, IsForm, IsJob}
+use Rattle.tez_meaning.specs.Jobs.{Job}
+use Rattle.tez_am.specs.Accept.{Planned, and_then, Next, content, IsContent, dag_limit, dag_bytes, IsDagOf, IsDag, AfterDag, any_job, is_one_task, run_job, with_sources, IsJob}
 use Rattle.tez_am.specs.Call.{Reads}
 use Rattle.tez_am.specs.Cause.{Refusal}
-use Rattle.tez_am.specs.FirstPath.{first_path}
 use Rattle.tez_am.proofs.Publishing.{rose_later}
-use Rattle.tez_am.specs.declared.job.Form.{Form}
-use Rattle.tez_am.specs.declared.job.Job.{Job}
 use Rattle.tez_am.specs.declared.status.Status.{Status}
 use Rattle.tez_am.specs.declared.status.Status.TheVariants.{Usage, DagRefused, InputMissing, InputTooLarge, InputFault, OtherForm, NoMemory}
 
@@ -54,69 +51,72 @@ dag_refused word bytes slice reads s told same is =
       | inr it ↦ subst P (sym it.1) (λ m t. dag_at word bytes m (Err (DagRefused it.0)) (told m t) (subst (λ b. IsDue b (Err it.0)) same it.2))
     ]
 
--- ---- the form
+-- ---- what comes after the DAG file
 
-form_refused_at : (word : Option (List ℕ)) (m : Named) (r : Status) → IsDag word m (Err r) → IsForm word m (Err r)
-form_refused_at word m r is = record { dag = Err r; is = is; rest = refl }
+after_refused_at : {A : Type 0} (next : Named → Planned → Result A Status) (word : Option (List ℕ)) (m : Named) (r : Status) → IsDag word m (Err r) → AfterDag next word m (Err r)
+after_refused_at next word m r is = record { dag = Err r; is = is; rest = refl }
 
-pub form_unread : (word : Option (List ℕ)) (reads : Reads) (s : Status) → Refusal (IsDag word) reads s → Refusal (IsForm word) reads s
-form_unread word reads s h = refusal_from (IsDag word) (IsForm word) reads s (form_refused_at word) h
+pub after_unread : {A : Type 0} (next : Named → Planned → Result A Status) (word : Option (List ℕ)) (reads : Reads) (s : Status) → Refusal (IsDag word) reads s → Refusal (AfterDag next word) reads s
+after_unread next word reads s h = refusal_from (IsDag word) (AfterDag next word) reads s (after_refused_at next word) h
 
-pub form_read : (word : Option (List ℕ)) (said : Planned) (form : Form) (files : Option Named) → Told files (λ m. IsDag word m (Ok said)) → first_path said.0 ≡ Some form
-    → Told files (λ m. IsForm word m (Ok form))
-form_read word said form files told is m t = record { dag = Ok said; is = told m t; rest = ap (λ f. ok_or f OtherForm) (sym is) }
+pub after_at : {A : Type 0} (next : Named → Planned → Result A Status) (word : Option (List ℕ)) (said : Planned) (m : Named) (answer : Result A Status) → IsDag word m (Ok said) → answer ≡ next m said → AfterDag next word m answer
+after_at next word said m answer is due = record { dag = Ok said; is = is; rest = due }
 
-pub form_refused : (word : Option (List ℕ)) (said : Planned) (reads : Reads) (s : Status) → Told reads.files (λ m. IsDag word m (Ok said))
-    → (s ≡ NoMemory) ⊎ ((s ≡ OtherForm) × (first_path said.0 ≡ None)) → Refusal (IsForm word) reads s
-form_refused word said reads s told is =
-    let P : Status → Type 0 = λ r. Refusal (IsForm word) reads r in
-    elim is [
-      | inl short ↦ subst P (sym short) tt
-      | inr other ↦ subst P (sym other.0) (λ m t. record { dag = Ok said; is = told m t; rest = ap (λ f. ok_or f OtherForm) (sym other.1) })
-    ]
+-- a refusal by reads that began later
+pub later_refusal : {A B : Type 0} (P : Named → Result A Status → Type 0) (Q : Named → Result B Status → Type 0) (old mid : Option Named) (before between now : ℕ) (failed : List ℕ) → mid ≡ old → before ≤ between
+    → ((m : Named) → old ≡ Some m → (r : Status) → P m (Err r) → Q m (Err r)) → (s : Status) → Refusal P (record { files = mid; before = between; now = now; failed = failed }) s
+    → Refusal Q (record { files = old; before = before; now = now; failed = failed }) s
+later_refusal {A} {B} P Q old mid before between now failed same later step s h = by s h where
+  due : (r : Status) → ((m : Named) → mid ≡ Some m → P m (Err r)) → (m : Named) → old ≡ Some m → Q m (Err r)
+  due r is m t = step m t r (is m (same ∙ t))
+
+  by : (s : Status) → Refusal P (record { files = mid; before = between; now = now; failed = failed }) s → Refusal Q (record { files = old; before = before; now = now; failed = failed }) s
+  by (DagRefused fault) h = due (DagRefused fault) h
+  by (InputMissing n) h = due (InputMissing n) h
+  by (InputTooLarge n) h = due (InputTooLarge n) h
+  by (InputFault n) h = (rose_later _ _ _ later h.0, h.1)
+  by OtherForm h = due OtherForm h
+  by NoMemory h = tt
+  by _ h = absurd h
 
 -- ---- the job
 
-job_refused_at : (word : Option (List ℕ)) (m : Named) (r : Status) → IsForm word m (Err r) → IsJob word m (Err r)
-job_refused_at word m r h = record { dag = h.dag; is = h.is; rest = next h.dag h.rest } where
-  next : (dag : Result Planned Status) → Err r ≡ and_then dag (planned_form m) → Err r ≡ and_then dag (planned_job m)
-  next (Ok said) is = ap (λ f. and_then f (form_job m)) is
-  next (Err s) is = let same : r ≡ s = cc in ap Err same
+-- of any plan
 
-job_at : (word : Option (List ℕ)) (m : Named) (form : Form) (answer : Result Job Status) → IsForm word m (Ok form) → answer ≡ form_job m form → IsJob word m answer
-job_at word m form answer h due = record { dag = h.dag; is = h.is; rest = due ∙ next h.dag h.rest } where
-  next : (dag : Result Planned Status) → Ok form ≡ and_then dag (planned_form m) → form_job m form ≡ and_then dag (planned_job m)
-  next (Ok said) is = ap (λ f. and_then f (form_job m)) is
-  next (Err s) is = cc
+any_at : (word : Option (List ℕ)) (said : Planned) (m : Named) (answer : Result Job Status) → IsDag word m (Ok said) → with_sources m said.0 ≡ answer → AfterDag any_job word m answer
+any_at word said m answer is due = after_at any_job word said m answer is (sym due)
 
-pub job_unread : (word : Option (List ℕ)) (reads : Reads) (s : Status) → Refusal (IsForm word) reads s → Refusal (IsJob word) reads s
-job_unread word reads s h = refusal_from (IsForm word) (IsJob word) reads s (job_refused_at word) h
+pub any_read : (word : Option (List ℕ)) (said : Planned) (job : Job) (old mid : Option Named) → mid ≡ old → Told old (λ m. IsDag word m (Ok said)) → Told mid (λ m. with_sources m said.0 ≡ Ok job)
+    → Told old (λ m. AfterDag any_job word m (Ok job))
+any_read word said job old mid same is read m t = any_at word said m (Ok job) (is m t) (read m (same ∙ t))
 
-source_at : (name : List ℕ) (form : Form) (m : Named) (r : Result (List ℕ) Status) → name ≡ form.source → content name source_limit m ≡ r → and_then r (with_source form) ≡ form_job m form
-source_at name form m r named is = ap (λ b. and_then b (with_source form)) (sym is ∙ ap (λ n. content n source_limit m) named)
+pub any_unread : (word : Option (List ℕ)) (said : Planned) (old mid : Option Named) (before between now : ℕ) (failed : List ℕ) → mid ≡ old → before ≤ between → Told old (λ m. IsDag word m (Ok said))
+    → (s : Status) → Refusal (λ m answer. with_sources m said.0 ≡ answer) (record { files = mid; before = between; now = now; failed = failed }) s
+    → Refusal (AfterDag any_job word) (record { files = old; before = before; now = now; failed = failed }) s
+any_unread word said old mid before between now failed same later is s h =
+    later_refusal (λ m answer. with_sources m said.0 ≡ answer) (AfterDag any_job word) old mid before between now failed same later (λ m t r due. any_at word said m (Err r) (is m t) due) s h
 
-pub job_read : (word : Option (List ℕ)) (form : Form) (name source kept : List ℕ) (old mid : Option Named) → name ≡ form.source → kept ≡ source → mid ≡ old
-    → Told old (λ m. IsForm word m (Ok form)) → Told mid (λ m. content name source_limit m ≡ Ok source) → Told old (λ m. IsJob word m (with_source form kept))
-job_read word form name source kept old mid named as_read same told whole m t = job_at word m form (with_source form kept) (told m t) (ap (with_source form) as_read ∙ source_at name form m (Ok source) named (whole m (same ∙ t)))
+-- of one that can be run
 
--- the source's refusal, from reads that began later
-pub source_unread : (word : Option (List ℕ)) (form : Form) (name : List ℕ) (old mid : Option Named) (before between now : ℕ) (failed : List ℕ) → name ≡ form.source → mid ≡ old → before ≤ between
-    → Told old (λ m. IsForm word m (Ok form)) → (s : Status) → Refusal (IsContent name source_limit) (record { files = mid; before = between; now = now; failed = failed }) s
+job_at : (word : Option (List ℕ)) (said : Planned) (m : Named) (answer : Result Job Status) → IsDag word m (Ok said) → is_one_task said.0 ≡ true → with_sources m said.0 ≡ answer → IsJob word m answer
+job_at word said m answer is one due = after_at run_job word said m answer is (sym due ∙ can one) where
+  can : is_one_task said.0 ≡ true → with_sources m said.0 ≡ run_job m said
+  can one = rw one refl
+
+pub job_read : (word : Option (List ℕ)) (said : Planned) (job : Job) (old mid : Option Named) → mid ≡ old → is_one_task said.0 ≡ true → Told old (λ m. IsDag word m (Ok said))
+    → Told mid (λ m. with_sources m said.0 ≡ Ok job) → Told old (λ m. IsJob word m (Ok job))
+job_read word said job old mid same one is read m t = job_at word said m (Ok job) (is m t) one (read m (same ∙ t))
+
+pub job_unread : (word : Option (List ℕ)) (said : Planned) (old mid : Option Named) (before between now : ℕ) (failed : List ℕ) → mid ≡ old → before ≤ between → is_one_task said.0 ≡ true
+    → Told old (λ m. IsDag word m (Ok said)) → (s : Status) → Refusal (λ m answer. with_sources m said.0 ≡ answer) (record { files = mid; before = between; now = now; failed = failed }) s
     → Refusal (IsJob word) (record { files = old; before = before; now = now; failed = failed }) s
-source_unread word form name old mid before between now failed named same later told s h =
-    by s h where
-      due : (r : Status) → ((m : Named) → mid ≡ Some m → content name source_limit m ≡ Err r) → (m : Named) → old ≡ Some m → IsJob word m (Err r)
-      due r is m t = job_at word m form (Err r) (told m t) (source_at name form m (Err r) named (is m (same ∙ t)))
+job_unread word said old mid before between now failed same later one is s h =
+    later_refusal (λ m answer. with_sources m said.0 ≡ answer) (IsJob word) old mid before between now failed same later (λ m t r due. job_at word said m (Err r) (is m t) one due) s h
 
-      by : (s : Status) → Refusal (IsContent name source_limit) (record { files = mid; before = between; now = now; failed = failed }) s
-          → Refusal (IsJob word) (record { files = old; before = before; now = now; failed = failed }) s
-      by (DagRefused fault) h = due (DagRefused fault) h
-      by (InputMissing n) h = due (InputMissing n) h
-      by (InputTooLarge n) h = due (InputTooLarge n) h
-      by (InputFault n) h = (rose_later _ _ _ later h.0, h.1)
-      by OtherForm h = due OtherForm h
-      by NoMemory h = tt
-      by _ h = absurd h
+pub other_form : (word : Option (List ℕ)) (said : Planned) (reads : Reads) → is_one_task said.0 ≡ false → Told reads.files (λ m. IsDag word m (Ok said)) → Refusal (IsJob word) reads OtherForm
+other_form word said reads not_one is m t = after_at run_job word said m (Err OtherForm) (is m t) (cannot not_one) where
+  cannot : is_one_task said.0 ≡ false → Err OtherForm ≡ run_job m said
+  cannot h = rw h refl
 
 -- ---- one answer is due
 
@@ -136,8 +136,11 @@ one_dag word m a b ha hb = by (dag_bytes word m) ha hb where
   by (Ok bytes) ha hb = one_dag_of bytes a b ha hb
   by (Err s) ha hb = ha ∙ sym hb
 
+pub one_after : {A : Type 0} (next : Named → Planned → Result A Status) (word : Option (List ℕ)) (m : Named) (a b : Result A Status) → AfterDag next word m a → AfterDag next word m b → a ≡ b
+one_after next word m a b ha hb = ha.rest ∙ ap (λ d. and_then d (next m)) (one_dag word m ha.dag hb.dag ha.is hb.is) ∙ sym hb.rest
+
 pub one_job : (word : Option (List ℕ)) (m : Named) (a b : Result Job Status) → IsJob word m a → IsJob word m b → a ≡ b
-one_job word m a b ha hb = ha.rest ∙ ap (λ d. and_then d (planned_job m)) (one_dag word m ha.dag hb.dag ha.is hb.is) ∙ sym hb.rest
+one_job word m a b ha hb = one_after run_job word m a b ha hb
 
 -- ---- by the words
 

@@ -1,21 +1,22 @@
 -- How a call ends, from how its run ended and from what was said.
-use Rattle.std.proofs.Common.{◌≡◌, ◌≢◌, ℕ, List, Some, None, Result, Ok, Err, IfOk, IfErr, OnOk, inl, inr, sym, subst, ap}
+use Rattle.std.proofs.Common.{◌≡◌, ◌≢◌, ℕ, List, Some, None, Result, Ok, Err, IfOk, IfErr, OnOk, refl, inl, inr, sym, subst, ap}
 use Rattle.tez_ports.specs.Causes.{Rose}
 use Rattle.tez_ports.specs.Content.{Told}
+use Rattle.tez_meaning.specs.Jobs.{Job}
 use Rattle.tez_am.specs.Accept.{IsJob, IsAccepted}
 use Rattle.tez_am.specs.Call.{Writes, Call, Wrote, WrotePart}
-use Rattle.tez_am.specs.Cause.{Refusal, ForJob, Cause, Leaves, MayPublish, SaidNoMemory}
-use Rattle.tez_am.specs.Meaning.{summary_of}
+use Rattle.tez_am.specs.Cause.{Refusal, ForJob, Cause, IsTextOf, Leaves, MayPublish, SaidNoMemory, Writing}
 use Rattle.tez_am.specs.Publish.{publications, Publishes, RunCause}
-use Rattle.tez_am.specs.Say.{Said, answer_of, text_of}
-use Rattle.tez_am.specs.Text.{success_text, status_text}
+use Rattle.tez_am.specs.Run.{HasText}
+use Rattle.tez_am.specs.Say.{Said, answer_of, failure_text, status_of, text_of}
+use Rattle.tez_am.specs.Text.{spent_line, success_text, status_text}
 use Rattle.tez_am.specs.Words.{dag_word}
 use Rattle.tez_am.proofs.Accepting.{refusal_from, at_word}
-use Rattle.tez_am.specs.declared.job.Job.{Job}
-use Rattle.tez_am.specs.declared.job.Summary.{Summary}
+use Rattle.tez_am.specs.declared.failure.Failure.{Failure}
+use Rattle.tez_am.specs.declared.failure.Failure.TheVariants.{Because, Spent}
 use Rattle.tez_am.specs.declared.status.Device.TheVariants as device
 use Rattle.tez_am.specs.declared.status.Status.{Status}
-use Rattle.tez_am.specs.declared.status.Status.TheVariants.{Succeeded, Usage, DagRefused, InputMissing, InputTooLarge, InputFault, OtherForm, SinkExists, DeviceFault, OutFault, NoMemory}
+use Rattle.tez_am.specs.declared.status.Status.TheVariants.{Succeeded, Usage, DagRefused, InputMissing, InputTooLarge, InputFault, OtherForm, SinkExists, AttemptsSpent, DeviceFault, OutFault, NoMemory}
 
 -- P of the answer, from P of all that it may be
 pub answered : (P : Status → Type 0) (status : Status) (text : List ℕ) (out : Writes) (answer : Status) → Said status text out answer
@@ -25,9 +26,34 @@ answered P status text out answer said whole part short = elim said [
   | inr other ↦ elim other [ inl fault ↦ subst P (sym fault.0) (part fault.1 fault.2 fault.3) | inr memory ↦ subst P (sym memory.0) (short memory.1) ]
 ]
 
+-- all that is said of an answer
+pub record Ends (c : Call) (s : Status) : Type 0 where
+  pub cause : Cause c s
+  pub leaves : Leaves c s
+  pub writing : Writing c s
+
+-- the ends of an answer whose text was not written whole
+ends_in_fault : (c : Call) (due : Status) (text : List ℕ) → MayPublish c → Cause c due → IsTextOf c due text → Rose c.out.before c.out.now → WrotePart text c.out → Ends c OutFault
+unfolding Cause Leaves Writing
+ends_in_fault c due text may cause is rose part = record { cause = rose; leaves = may; writing = record { due = due; cause = cause; text = text; is = is; part = part } }
+
+ends_short : (c : Call) → MayPublish c → SaidNoMemory c.out → Ends c NoMemory
+unfolding Cause Leaves Writing
+ends_short c may short = record { cause = tt; leaves = may; writing = short }
+
 -- ---- a refusal before the run
 
-pub refused_cause : (c : Call) (s : Status) → Refusal (IsAccepted c.words) c.reads s → Cause c s
+refused : (c : Call) → c.store.new ≡ c.store.old → (s : Status) → Refusal (IsAccepted c.words) c.reads s → Wrote (status_text s) c.out → Ends c s
+unfolding Cause Leaves Writing
+refused c same (DagRefused f) h wrote = record { cause = h; leaves = same; writing = (status_text (DagRefused f), refl, wrote) }
+refused c same (InputMissing n) h wrote = record { cause = h; leaves = same; writing = (status_text (InputMissing n), refl, wrote) }
+refused c same (InputTooLarge n) h wrote = record { cause = h; leaves = same; writing = (status_text (InputTooLarge n), refl, wrote) }
+refused c same (InputFault n) h wrote = record { cause = h; leaves = same; writing = (status_text (InputFault n), refl, wrote) }
+refused c same OtherForm h wrote = record { cause = h; leaves = same; writing = (status_text OtherForm, refl, wrote) }
+refused c same NoMemory h wrote = record { cause = tt; leaves = inl (ap publications same); writing = inl wrote }
+refused c same _ h wrote = absurd h
+
+refused_cause : (c : Call) (s : Status) → Refusal (IsAccepted c.words) c.reads s → Cause c s
 unfolding Cause
 refused_cause c (DagRefused f) h = h
 refused_cause c (InputMissing n) h = h
@@ -37,116 +63,111 @@ refused_cause c OtherForm h = h
 refused_cause c NoMemory h = tt
 refused_cause c _ h = absurd h
 
-refused_leaves : (c : Call) → c.store.new ≡ c.store.old → (s : Status) → Refusal (IsAccepted c.words) c.reads s → Wrote (status_text s) c.out → Leaves c s
-unfolding Cause Leaves
-refused_leaves c same (DagRefused f) h wrote = (same, wrote)
-refused_leaves c same (InputMissing n) h wrote = (same, wrote)
-refused_leaves c same (InputTooLarge n) h wrote = (same, wrote)
-refused_leaves c same (InputFault n) h wrote = (same, wrote)
-refused_leaves c same OtherForm h wrote = (same, wrote)
-refused_leaves c same NoMemory h wrote = (inl (ap publications same), inl wrote)
-refused_leaves c same _ h wrote = absurd h
+refused_text : (c : Call) (s : Status) → s ≢ NoMemory → Refusal (IsAccepted c.words) c.reads s → IsTextOf c s (status_text s)
+refused_text c (DagRefused f) other h = refl
+refused_text c (InputMissing n) other h = refl
+refused_text c (InputTooLarge n) other h = refl
+refused_text c (InputFault n) other h = refl
+refused_text c OtherForm other h = refl
+refused_text c NoMemory other h = absurd (other refl)
+refused_text c _ other h = absurd h
 
-pub refusal_ends : (c : Call) → c.store.new ≡ c.store.old → (s answer : Status) → Refusal (IsAccepted c.words) c.reads s
-    → Said s (status_text s) c.out answer → Cause c answer × Leaves c answer
-unfolding Cause Leaves
+refusal_ends : (c : Call) → c.store.new ≡ c.store.old → (s answer : Status) → Refusal (IsAccepted c.words) c.reads s → Said s (status_text s) c.out answer → Ends c answer
 refusal_ends c same s answer h said =
-    let cause = refused_cause c s h in
     let as_before : MayPublish c = inl (ap publications same) in
-    answered (λ r. Cause c r × Leaves c r) s (status_text s) c.out answer said
-    (λ wrote. (cause, refused_leaves c same s h wrote))
-    (λ other rose part. (rose, (as_before, inr (s, other, cause, part))))
-    (λ short. (tt, (as_before, short)))
+    answered (Ends c) s (status_text s) c.out answer said
+    (refused c same s h)
+    (λ other rose part. ends_in_fault c s (status_text s) as_before (refused_cause c s h) (refused_text c s other h) rose part)
+    (ends_short c as_before)
 
 -- ---- words that are no command
 
-pub usage_ends : (c : Call) → dag_word c.words ≡ None → c.store.new ≡ c.store.old → (answer : Status) → Said Usage (status_text Usage) c.out answer → Cause c answer × Leaves c answer
-unfolding Cause Leaves
+pub usage_ends : (c : Call) → dag_word c.words ≡ None → c.store.new ≡ c.store.old → (answer : Status) → Said Usage (status_text Usage) c.out answer → Ends c answer
+unfolding Cause Leaves Writing
 usage_ends c none same answer said =
     let as_before : MayPublish c = inl (ap publications same) in
-    answered (λ r. Cause c r × Leaves c r) Usage (status_text Usage) c.out answer said
-    (λ wrote. (none, (same, wrote)))
-    (λ other rose part. (rose, (as_before, inr (Usage, other, none, part))))
-    (λ short. (tt, (as_before, short)))
+    answered (Ends c) Usage (status_text Usage) c.out answer said
+    (λ wrote. record { cause = none; leaves = same; writing = (status_text Usage, refl, wrote) })
+    (λ other rose part. ends_in_fault c Usage (status_text Usage) as_before none refl rose part)
+    (ends_short c as_before)
 
 -- ---- a run
 
-pub for_job : (c : Call) (job : Job) (P : Job → Type 0) → Told c.reads.files (λ m. IsAccepted c.words m (Ok job)) → P job → ForJob c P
-for_job c job P is p m t = (job, is m t, p)
+abbrev Ran : Call → Job → Type 0
+Ran c job = Told c.reads.files (λ m. IsAccepted c.words m (Ok job))
 
-ran_cause : (c : Call) (job : Job) → Told c.reads.files (λ m. IsAccepted c.words m (Ok job)) → (s : Status) → RunCause job c.store s → Cause c s
+ran_cause : (c : Call) (job : Job) → Ran c job → (s : Status) → RunCause job c.store s → Cause c s
 unfolding Cause
-ran_cause c job is (SinkExists n) h = ((λ m t. (job, is m t, h.0)), h.2)
+ran_cause c job is (SinkExists n) h = ((λ m t. (job, is m t, h.1)), (λ s told m t. (job, is m t, h.2 s told)))
+ran_cause c job is (AttemptsSpent vertex task) h = (h.2, h.3, (λ m t. (job, is m t, h.4)), (λ s told m t. (job, is m t, h.1 s told)))
 ran_cause c job is (DeviceFault device.Store) h = (h.0, λ m t. (job, is m t, tt))
 ran_cause c job is NoMemory h = tt
 ran_cause c job is _ h = absurd h
 
-ran_may_publish : (c : Call) (job : Job) → Told c.reads.files (λ m. IsAccepted c.words m (Ok job)) → (s : Status) → RunCause job c.store s → MayPublish c
-ran_may_publish c job is (SinkExists n) h = inl (ap publications h.1)
+ran_may_publish : (c : Call) (job : Job) → Ran c job → (s : Status) → RunCause job c.store s → MayPublish c
+ran_may_publish c job is (SinkExists n) h = inl (ap publications h.0)
+ran_may_publish c job is (AttemptsSpent vertex task) h = inl (ap publications h.0)
 ran_may_publish c job is (DeviceFault device.Store) h = elim h.1 [ inl same ↦ inl same | inr done ↦ inr (λ m t. (job, is m t, done)) ]
 ran_may_publish c job is NoMemory h = inl h
 ran_may_publish c job is _ h = absurd h
 
-ran_leaves : (c : Call) (job : Job) → Told c.reads.files (λ m. IsAccepted c.words m (Ok job)) → (s : Status) → RunCause job c.store s → Wrote (status_text s) c.out → Leaves c s
-unfolding Cause Leaves
-ran_leaves c job is (SinkExists n) h wrote = (h.1, wrote)
-ran_leaves c job is (DeviceFault device.Store) h wrote = (ran_may_publish c job is (DeviceFault device.Store) h, wrote)
-ran_leaves c job is NoMemory h wrote = (inl h, inl wrote)
-ran_leaves c job is _ h wrote = absurd h
+ran_leaves : (c : Call) (job : Job) → Ran c job → (s : Status) → RunCause job c.store s → Leaves c s
+unfolding Leaves
+ran_leaves c job is (SinkExists n) h = h.0
+ran_leaves c job is (AttemptsSpent vertex task) h = h.0
+ran_leaves c job is (DeviceFault device.Store) h = ran_may_publish c job is (DeviceFault device.Store) h
+ran_leaves c job is NoMemory h = inl h
+ran_leaves c job is _ h = absurd h
 
-pub failure_ends : (c : Call) (job : Job) → Told c.reads.files (λ m. IsAccepted c.words m (Ok job)) → (s answer : Status) → RunCause job c.store s
-    → Said s (status_text s) c.out answer → Cause c answer × Leaves c answer
-unfolding Cause Leaves
-failure_ends c job is s answer h said =
-    let cause = ran_cause c job is s h in
-    let may = ran_may_publish c job is s h in
-    answered (λ r. Cause c r × Leaves c r) s (status_text s) c.out answer said
-    (λ wrote. (cause, ran_leaves c job is s h wrote))
-    (λ other rose part. (rose, (may, inr (s, other, cause, part))))
-    (λ short. (tt, (may, short)))
+-- the text of a failure, and what it is to have been written
 
-pub success_ends : (c : Call) (job : Job) → Told c.reads.files (λ m. IsAccepted c.words m (Ok job)) → (summary : Summary) (answer : Status) → summary ≡ summary_of job
-    → Publishes job c.store → Said Succeeded (success_text summary) c.out answer → Cause c answer × Leaves c answer
-unfolding Cause Leaves
-success_ends c job is summary answer tells done said =
-    let may : MayPublish c = inr (λ m t. (job, is m t, done)) in
-    let same : success_text summary ≡ success_text (summary_of job) = ap success_text tells in
-    answered (λ r. Cause c r × Leaves c r) Succeeded (success_text summary) c.out answer said
-    (λ wrote. ((λ m t. (job, is m t, done)), (λ m t. (job, is m t, (done, rw (← same) wrote)))))
-    (λ other rose part. (rose, (may, inl (λ m t. (job, is m t, rw (← same) part)))))
-    (λ short. (tt, (may, short)))
+failed_text : (c : Call) (job : Job) → Ran c job → (f : Failure) → HasText job f → status_of f ≢ NoMemory → RunCause job c.store (status_of f) → IsTextOf c (status_of f) (failure_text f)
+failed_text c job is (Because (SinkExists n)) text other h = refl
+failed_text c job is (Because (DeviceFault device.Store)) text other h = refl
+failed_text c job is (Because NoMemory) text other h = absurd (other refl)
+failed_text c job is (Because (AttemptsSpent vertex task)) text other h = absurd text
+failed_text c job is (Because _) text other h = absurd h
+failed_text c job is (Spent vertex task name) text other h = λ m t. (job, is m t, ap (λ n. spent_line n task) text)
 
-pub run_ends : (c : Call) (job : Job) → Told c.reads.files (λ m. IsAccepted c.words m (Ok job)) → (ended : Result Summary Status) (answer : Status)
-    → IfOk ended (λ summary. summary ≡ summary_of job) → OnOk ended (Publishes job c.store) → IfErr ended (RunCause job c.store)
-    → Said (answer_of ended) (text_of ended) c.out answer → Cause c answer × Leaves c answer
-run_ends c job is (Ok summary) answer tells done cause said = success_ends c job is summary answer tells done said
-run_ends c job is (Err s) answer tells done cause said = failure_ends c job is s answer cause said
+failed_writes : (c : Call) (job : Job) → Ran c job → (f : Failure) → HasText job f → RunCause job c.store (status_of f) → Wrote (failure_text f) c.out → Writing c (status_of f)
+unfolding Writing
+failed_writes c job is (Because (SinkExists n)) text h wrote = (status_text (SinkExists n), refl, wrote)
+failed_writes c job is (Because (DeviceFault device.Store)) text h wrote = (status_text (DeviceFault device.Store), refl, wrote)
+failed_writes c job is (Because NoMemory) text h wrote = inl wrote
+failed_writes c job is (Because (AttemptsSpent vertex task)) text h wrote = absurd text
+failed_writes c job is (Because _) text h wrote = absurd h
+failed_writes c job is (Spent vertex task name) text h wrote = (spent_line name task, (λ m t. (job, is m t, ap (λ n. spent_line n task) text)), wrote)
 
--- ---- each part alone
+failure_ends : (c : Call) (job : Job) → Ran c job → (f : Failure) (answer : Status) → RunCause job c.store (status_of f) → HasText job f → Said (status_of f) (failure_text f) c.out answer → Ends c answer
+failure_ends c job is f answer h text said =
+    let cause = ran_cause c job is (status_of f) h in
+    let may = ran_may_publish c job is (status_of f) h in
+    answered (Ends c) (status_of f) (failure_text f) c.out answer said
+    (λ wrote. record { cause = cause; leaves = ran_leaves c job is (status_of f) h; writing = failed_writes c job is f text h wrote })
+    (λ other rose part. ends_in_fault c (status_of f) (failure_text f) may cause (failed_text c job is f text other h) rose part)
+    (ends_short c may)
+
+success_ends : (c : Call) (job : Job) → Ran c job → (text : List ℕ) (answer : Status) → text ≡ success_text job → Publishes job c.store → Said Succeeded text c.out answer → Ends c answer
+unfolding Cause Leaves Writing
+success_ends c job is text answer tells done said =
+    let for_job : ForJob c (λ j. Publishes j c.store) = λ m t. (job, is m t, done) in
+    let telling : ForJob c (λ j. text ≡ success_text j) = λ m t. (job, is m t, tells) in
+    answered (Ends c) Succeeded text c.out answer said
+    (λ wrote. record { cause = for_job; leaves = for_job; writing = (text, telling, wrote) })
+    (λ other rose part. ends_in_fault c Succeeded text (inr for_job) for_job telling rose part)
+    (ends_short c (inr for_job))
+
+-- ---- by the words
 
 by_words : (c : Call) (word : List ℕ) → dag_word c.words ≡ Some word → (s : Status) → Refusal (IsJob (Some word)) c.reads s → Refusal (IsAccepted c.words) c.reads s
 by_words c word is s h = refusal_from (IsJob (Some word)) (IsAccepted c.words) c.reads s (λ m r due. at_word IsJob (dag_word c.words) word m (Err r) is due) h
 
-pub usage_cause : (c : Call) → dag_word c.words ≡ None → c.store.new ≡ c.store.old → (answer : Status) → Said Usage (status_text Usage) c.out answer → Cause c answer
-usage_cause c none same answer said = (usage_ends c none same answer said).0
+pub refused_ends : (c : Call) (word : List ℕ) → dag_word c.words ≡ Some word → c.store.new ≡ c.store.old → (s answer : Status) → Refusal (IsJob (Some word)) c.reads s
+    → Said s (status_text s) c.out answer → Ends c answer
+refused_ends c word is same s answer h said = refusal_ends c same s answer (by_words c word is s h) said
 
-pub usage_leaves : (c : Call) → dag_word c.words ≡ None → c.store.new ≡ c.store.old → (answer : Status) → Said Usage (status_text Usage) c.out answer → Leaves c answer
-usage_leaves c none same answer said = (usage_ends c none same answer said).1
-
-pub refusal_cause : (c : Call) (word : List ℕ) → dag_word c.words ≡ Some word → c.store.new ≡ c.store.old → (s answer : Status) → Refusal (IsJob (Some word)) c.reads s
-    → Said s (status_text s) c.out answer → Cause c answer
-refusal_cause c word is same s answer h said = (refusal_ends c same s answer (by_words c word is s h) said).0
-
-pub refusal_leaves : (c : Call) (word : List ℕ) → dag_word c.words ≡ Some word → c.store.new ≡ c.store.old → (s answer : Status) → Refusal (IsJob (Some word)) c.reads s
-    → Said s (status_text s) c.out answer → Leaves c answer
-refusal_leaves c word is same s answer h said = (refusal_ends c same s answer (by_words c word is s h) said).1
-
-pub run_cause : (c : Call) (word : List ℕ) (job : Job) → dag_word c.words ≡ Some word → Told c.reads.files (λ m. IsJob (Some word) m (Ok job)) → (ended : Result Summary Status) (answer : Status)
-    → IfOk ended (λ summary. summary ≡ summary_of job) → OnOk ended (Publishes job c.store) → IfErr ended (RunCause job c.store)
-    → Said (answer_of ended) (text_of ended) c.out answer → Cause c answer
-run_cause c word job is at ended answer tells done cause said = (run_ends c job (λ m t. at_word IsJob (dag_word c.words) word m (Ok job) is (at m t)) ended answer tells done cause said).0
-
-pub run_leaves : (c : Call) (word : List ℕ) (job : Job) → dag_word c.words ≡ Some word → Told c.reads.files (λ m. IsJob (Some word) m (Ok job)) → (ended : Result Summary Status) (answer : Status)
-    → IfOk ended (λ summary. summary ≡ summary_of job) → OnOk ended (Publishes job c.store) → IfErr ended (RunCause job c.store)
-    → Said (answer_of ended) (text_of ended) c.out answer → Leaves c answer
-run_leaves c word job is at ended answer tells done cause said = (run_ends c job (λ m t. at_word IsJob (dag_word c.words) word m (Ok job) is (at m t)) ended answer tells done cause said).1
+pub run_ends : (c : Call) (word : List ℕ) (job : Job) → dag_word c.words ≡ Some word → Told c.reads.files (λ m. IsJob (Some word) m (Ok job)) → (ended : Result (List ℕ) Failure) (answer : Status)
+    → IfOk ended (λ text. text ≡ success_text job) → OnOk ended (Publishes job c.store) → IfErr ended (λ f. RunCause job c.store (status_of f)) → IfErr ended (HasText job)
+    → Said (answer_of ended) (text_of ended) c.out answer → Ends c answer
+run_ends c word job is at (Ok text) answer tells done cause names said = success_ends c job (λ m t. at_word IsJob (dag_word c.words) word m (Ok job) is (at m t)) text answer tells done said
+run_ends c word job is at (Err f) answer tells done cause names said = failure_ends c job (λ m t. at_word IsJob (dag_word c.words) word m (Ok job) is (at m t)) f answer cause names said

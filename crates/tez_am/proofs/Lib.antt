@@ -1,6 +1,11 @@
 pub mod Accepting
 pub mod Contents
 pub mod Ending
+pub mod Meanings
+pub mod OneVertex
 pub mod Publishing
+pub mod RecordValues
 pub mod RowLemmas
+pub mod SourceLemmas
 pub mod Tools
+pub mod Working

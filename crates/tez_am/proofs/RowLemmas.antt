@@ -1,17 +1,20 @@
 -- An answer whose cause holds is the one that is due.
-use Rattle.std.proofs.Common.{◌≡◌, ℕ, List, Option, Some, None, true, is_some, IsSome, Ok, Err, refl, inl, inr, ◌∙◌, subst, ap}
-use Rattle.tez_ports.specs.Content.{Named, Store, bytes_of}
+use Rattle.std.proofs.Common.{◌≡◌, ℕ, Bool, true, false, List, Option, Some, None, Ok, Err, refl, inl, inr, ◌∙◌, sym, ap, ap₂}
+use Rattle.tez_lists.proofs.Cases.{both}
+use Rattle.tez_ports.specs.Content.{Named, Store}
+use Rattle.tez_plan.specs.Dag.{vertex}
+use Rattle.tez_meaning.specs.Jobs.{Job}
+use Rattle.tez_meaning.specs.Value.{bad}
 use Rattle.tez_am.specs.Accept.{IsAccepted}
 use Rattle.tez_am.specs.Call.{Call}
 use Rattle.tez_am.specs.Cause.{Cause}
+use Rattle.tez_am.specs.Publish.{first_taken}
 use Rattle.tez_am.specs.Rows.{IsAnswerOfReads, IsAnswerOfRun, KeepsRows}
 use Rattle.tez_am.specs.Words.{dag_word}
 use Rattle.tez_am.proofs.Accepting.{no_dag, one_job}
-use Rattle.tez_am.proofs.Publishing.{none_by}
-use Rattle.tez_am.specs.declared.job.Job.{Job}
 use Rattle.tez_am.specs.declared.status.Device.TheVariants as device
 use Rattle.tez_am.specs.declared.status.Status.{Status}
-use Rattle.tez_am.specs.declared.status.Status.TheVariants.{Succeeded, Usage, DagRefused, InputMissing, InputTooLarge, InputFault, OtherForm, SinkExists, DeviceFault, OutFault, NoMemory}
+use Rattle.tez_am.specs.declared.status.Status.TheVariants.{Succeeded, Usage, DagRefused, InputMissing, InputTooLarge, InputFault, OtherForm, SinkExists, AttemptsSpent, DeviceFault, MeaningUndefined, OutFault, NoMemory}
 
 no_command : (words : List (List ℕ)) (m : Named) → dag_word words ≡ None → IsAccepted words m (Err Usage)
 no_command words m none = record { dag = Err Usage; is = no_dag (dag_word words) m none; rest = refl }
@@ -22,14 +25,16 @@ not_both words m job refusal a b = let h = one_job (dag_word words) m (Ok job) (
 one_refusal : (words : List (List ℕ)) (m : Named) (a b : Status) → IsAccepted words m (Err a) → IsAccepted words m (Err b) → a ≡ b
 one_refusal words m a b h k = let e = one_job (dag_word words) m (Err a) (Err b) h k in cc
 
-one_sink : (words : List (List ℕ)) (m : Named) (a b : Job) → IsAccepted words m (Ok a) → IsAccepted words m (Ok b) → a.form.sink ≡ b.form.sink
-one_sink words m a b h k = let e = one_job (dag_word words) m (Ok a) (Ok b) h k in let same : a ≡ b = cc in ap (λ j. j.form.sink) same
+same_job : (words : List (List ℕ)) (m : Named) (a b : Job) → IsAccepted words m (Ok a) → IsAccepted words m (Ok b) → a ≡ b
+same_job words m a b h k = let e = one_job (dag_word words) m (Ok a) (Ok b) h k in cc
 
-is_there : (name sink : List ℕ) (entries : Named) → name ≡ sink → IsSome (bytes_of name entries) → bytes_of sink entries ≡ None → ⊥
-is_there name sink entries named there none =
-    let same : bytes_of name entries ≡ None = ap (λ n. bytes_of n entries) named ∙ none in
-    let P : Option (List ℕ) → Type 0 = λ o. IsSome o in
-    let h : is_some {T = List ℕ} None ≡ true = subst P same there in cc
+-- the same of what was published before, and of bad records
+taken_by : (words : List (List ℕ)) (m : Named) (publications : Named) (a b : Job) (x y : Option (List ℕ)) → IsAccepted words m (Ok a) → IsAccepted words m (Ok b)
+    → first_taken a.plan publications ≡ x → first_taken b.plan publications ≡ y → x ≡ y
+taken_by words m publications a b x y h k is at = sym is ∙ ap (λ j. first_taken j.plan publications) (same_job words m a b h k) ∙ at
+
+bad_by : (words : List (List ℕ)) (m : Named) (a b : Job) (x y : Bool) → IsAccepted words m (Ok a) → IsAccepted words m (Ok b) → bad a 0 ≡ x → bad b 0 ≡ y → x ≡ y
+bad_by words m a b x y h k is at = sym is ∙ ap (λ j. bad j 0) (same_job words m a b h k) ∙ at
 
 row_refused : (c : Call) (m : Named) → c.reads.files ≡ Some m → (refusal : Status) → IsAccepted c.words m (Err refusal) → (answer : Status) → Cause c answer → IsAnswerOfReads refusal answer
 unfolding Cause
@@ -41,48 +46,71 @@ row_refused c m t refusal due (InputTooLarge n) h = inl (inl (one_refusal c.word
 row_refused c m t refusal due (InputFault n) h = inr (n, refl)
 row_refused c m t refusal due OtherForm h = inl (inl (one_refusal c.words _ _ _ (h m t) due))
 row_refused c m t refusal due (SinkExists n) h = let j = h.0 m t in absurd (not_both c.words _ _ _ j.1 due)
+row_refused c m t refusal due (AttemptsSpent v n) h = let j = h.2 m t in absurd (not_both c.words _ _ _ j.1 due)
 row_refused c m t refusal due (DeviceFault device.Store) h = let j = h.1 m t in absurd (not_both c.words _ _ _ j.1 due)
 row_refused c m t refusal due (DeviceFault device.Disk) h = absurd h
+row_refused c m t refusal due (MeaningUndefined n) h = absurd h
 row_refused c m t refusal due OutFault h = inl (inr (inl refl))
 row_refused c m t refusal due NoMemory h = inl (inr (inr refl))
 
-row_exists : (c : Call) (m : Named) → c.reads.files ≡ Some m → (job : Job) → IsAccepted c.words m (Ok job) → (s : Store) → c.store.old ≡ Some s → IsSome (bytes_of job.form.sink s.publications)
-    → (answer : Status) → Cause c answer → IsAnswerOfRun (SinkExists job.form.sink) answer
+row_exists : (c : Call) (m : Named) → c.reads.files ≡ Some m → (job : Job) → IsAccepted c.words m (Ok job) → (s : Store) → c.store.old ≡ Some s → (name : List ℕ) → first_taken job.plan s.publications ≡ Some name
+    → (answer : Status) → Cause c answer → IsAnswerOfRun (SinkExists name) answer
 unfolding Cause
-row_exists c m t job is s told there Succeeded h =
-    let j = h m t in
-    absurd (is_there _ _ s.publications (one_sink c.words _ _ _ is j.1) there (none_by j.0.form.sink s.publications (j.2.not_before s told)))
-row_exists c m t job is s told there Usage h = absurd (not_both c.words _ _ _ is (no_command c.words m h))
-row_exists c m t job is s told there (DagRefused f) h = absurd (not_both c.words _ _ _ is (h m t))
-row_exists c m t job is s told there (InputMissing n) h = absurd (not_both c.words _ _ _ is (h m t))
-row_exists c m t job is s told there (InputTooLarge n) h = absurd (not_both c.words _ _ _ is (h m t))
-row_exists c m t job is s told there (InputFault n) h = inl (inr (n, refl))
-row_exists c m t job is s told there OtherForm h = absurd (not_both c.words _ _ _ is (h m t))
-row_exists c m t job is s told there (SinkExists n) h = let j = h.0 m t in inl (inl (inl (ap SinkExists (j.2 ∙ one_sink c.words _ _ _ j.1 is))))
-row_exists c m t job is s told there (DeviceFault device.Store) h = inr refl
-row_exists c m t job is s told there (DeviceFault device.Disk) h = absurd h
-row_exists c m t job is s told there OutFault h = inl (inl (inr (inl refl)))
-row_exists c m t job is s told there NoMemory h = inl (inl (inr (inr refl)))
+row_exists c m t job is s told name there Succeeded h = let j = h m t in let e = taken_by c.words _ s.publications job j.0 (Some name) None is j.1 there (j.2.not_before s told) in cc
+row_exists c m t job is s told name there Usage h = absurd (not_both c.words _ _ _ is (no_command c.words m h))
+row_exists c m t job is s told name there (DagRefused f) h = absurd (not_both c.words _ _ _ is (h m t))
+row_exists c m t job is s told name there (InputMissing n) h = absurd (not_both c.words _ _ _ is (h m t))
+row_exists c m t job is s told name there (InputTooLarge n) h = absurd (not_both c.words _ _ _ is (h m t))
+row_exists c m t job is s told name there (InputFault n) h = inl (inr (n, refl))
+row_exists c m t job is s told name there OtherForm h = absurd (not_both c.words _ _ _ is (h m t))
+row_exists c m t job is s told name there (SinkExists n) h = let j = h.1 s told m t in let e = taken_by c.words _ s.publications j.0 job (Some n) (Some name) j.1 is j.2 there in let same : n ≡ name = cc in inl (inl (inl (ap SinkExists same)))
+row_exists c m t job is s told name there (AttemptsSpent v n) h = let j = h.3 s told m t in let e = taken_by c.words _ s.publications job j.0 (Some name) None is j.1 there j.2 in cc
+row_exists c m t job is s told name there (DeviceFault device.Store) h = inr refl
+row_exists c m t job is s told name there (DeviceFault device.Disk) h = absurd h
+row_exists c m t job is s told name there (MeaningUndefined n) h = absurd h
+row_exists c m t job is s told name there OutFault h = inl (inl (inr (inl refl)))
+row_exists c m t job is s told name there NoMemory h = inl (inl (inr (inr refl)))
 
-row_succeeds : (c : Call) (m : Named) → c.reads.files ≡ Some m → (job : Job) → IsAccepted c.words m (Ok job) → (s : Store) → c.store.old ≡ Some s → bytes_of job.form.sink s.publications ≡ None
+row_spent : (c : Call) (m : Named) → c.reads.files ≡ Some m → (job : Job) → IsAccepted c.words m (Ok job) → (s : Store) → c.store.old ≡ Some s → first_taken job.plan s.publications ≡ None → bad job 0 ≡ true
+    → (answer : Status) → Cause c answer → IsAnswerOfRun (AttemptsSpent (vertex 0) 0) answer
+unfolding Cause
+row_spent c m t job is s told free worse Succeeded h = let j = h m t in absurd (both (sym (bad_by c.words _ job j.0 true (bad j.0 0) is j.1 worse refl)) (j.2.defined 0))
+row_spent c m t job is s told free worse Usage h = absurd (not_both c.words _ _ _ is (no_command c.words m h))
+row_spent c m t job is s told free worse (DagRefused f) h = absurd (not_both c.words _ _ _ is (h m t))
+row_spent c m t job is s told free worse (InputMissing n) h = absurd (not_both c.words _ _ _ is (h m t))
+row_spent c m t job is s told free worse (InputTooLarge n) h = absurd (not_both c.words _ _ _ is (h m t))
+row_spent c m t job is s told free worse (InputFault n) h = inl (inr (n, refl))
+row_spent c m t job is s told free worse OtherForm h = absurd (not_both c.words _ _ _ is (h m t))
+row_spent c m t job is s told free worse (SinkExists n) h = let j = h.1 s told m t in let e = taken_by c.words _ s.publications j.0 job (Some n) None j.1 is j.2 free in cc
+row_spent c m t job is s told free worse (AttemptsSpent v n) h = inl (inl (inl (ap₂ (λ a b. AttemptsSpent a b) (ap vertex h.0) h.1)))
+row_spent c m t job is s told free worse (DeviceFault device.Store) h = inr refl
+row_spent c m t job is s told free worse (DeviceFault device.Disk) h = absurd h
+row_spent c m t job is s told free worse (MeaningUndefined n) h = absurd h
+row_spent c m t job is s told free worse OutFault h = inl (inl (inr (inl refl)))
+row_spent c m t job is s told free worse NoMemory h = inl (inl (inr (inr refl)))
+
+row_succeeds : (c : Call) (m : Named) → c.reads.files ≡ Some m → (job : Job) → IsAccepted c.words m (Ok job) → (s : Store) → c.store.old ≡ Some s → first_taken job.plan s.publications ≡ None → bad job 0 ≡ false
     → (answer : Status) → Cause c answer → IsAnswerOfRun Succeeded answer
 unfolding Cause
-row_succeeds c m t job is s told none Succeeded h = inl (inl (inl refl))
-row_succeeds c m t job is s told none Usage h = absurd (not_both c.words _ _ _ is (no_command c.words m h))
-row_succeeds c m t job is s told none (DagRefused f) h = absurd (not_both c.words _ _ _ is (h m t))
-row_succeeds c m t job is s told none (InputMissing n) h = absurd (not_both c.words _ _ _ is (h m t))
-row_succeeds c m t job is s told none (InputTooLarge n) h = absurd (not_both c.words _ _ _ is (h m t))
-row_succeeds c m t job is s told none (InputFault n) h = inl (inr (n, refl))
-row_succeeds c m t job is s told none OtherForm h = absurd (not_both c.words _ _ _ is (h m t))
-row_succeeds c m t job is s told none (SinkExists n) h = let j = h.0 m t in absurd (is_there _ _ s.publications (j.2 ∙ one_sink c.words _ _ _ j.1 is) (h.1 s told) none)
-row_succeeds c m t job is s told none (DeviceFault device.Store) h = inr refl
-row_succeeds c m t job is s told none (DeviceFault device.Disk) h = absurd h
-row_succeeds c m t job is s told none OutFault h = inl (inl (inr (inl refl)))
-row_succeeds c m t job is s told none NoMemory h = inl (inl (inr (inr refl)))
+row_succeeds c m t job is s told free good Succeeded h = inl (inl (inl refl))
+row_succeeds c m t job is s told free good Usage h = absurd (not_both c.words _ _ _ is (no_command c.words m h))
+row_succeeds c m t job is s told free good (DagRefused f) h = absurd (not_both c.words _ _ _ is (h m t))
+row_succeeds c m t job is s told free good (InputMissing n) h = absurd (not_both c.words _ _ _ is (h m t))
+row_succeeds c m t job is s told free good (InputTooLarge n) h = absurd (not_both c.words _ _ _ is (h m t))
+row_succeeds c m t job is s told free good (InputFault n) h = inl (inr (n, refl))
+row_succeeds c m t job is s told free good OtherForm h = absurd (not_both c.words _ _ _ is (h m t))
+row_succeeds c m t job is s told free good (SinkExists n) h = let j = h.1 s told m t in let e = taken_by c.words _ s.publications j.0 job (Some n) None j.1 is j.2 free in cc
+row_succeeds c m t job is s told free good (AttemptsSpent v n) h = let j = h.2 m t in let e = bad_by c.words _ j.0 job true false j.1 is j.2 good in cc
+row_succeeds c m t job is s told free good (DeviceFault device.Store) h = inr refl
+row_succeeds c m t job is s told free good (DeviceFault device.Disk) h = absurd h
+row_succeeds c m t job is s told free good (MeaningUndefined n) h = absurd h
+row_succeeds c m t job is s told free good OutFault h = inl (inl (inr (inl refl)))
+row_succeeds c m t job is s told free good NoMemory h = inl (inl (inr (inr refl)))
 
 pub rows_from_cause : (c : Call) (answer : Status) → Cause c answer → (m : Named) → c.reads.files ≡ Some m → KeepsRows c.words m c.store.old answer
 rows_from_cause c answer h m t = record {
   refused = λ refusal due. row_refused c m t refusal due answer h;
-  exists = λ job is s told there. row_exists c m t job is s told there answer h;
-  succeeds = λ job is s told none. row_succeeds c m t job is s told none answer h;
+  exists = λ job is s told name there. row_exists c m t job is s told name there answer h;
+  spent = λ job is s told free worse. row_spent c m t job is s told free worse answer h;
+  succeeds = λ job is s told free good. row_succeeds c m t job is s told free good answer h;
 }

@@ -1,19 +1,19 @@
 -- From the words and the input files to what a call works on: the checks, in their order. Each gives a value, or the refusal that is due.
 --     content name limit files      the bytes of an input
 --     IsDag word files answer       what the DAG file of this name says
---     IsForm word files answer      its form, where it can be run
---     IsJob word files answer       that, and the bytes of its source
---     IsAccepted words files answer     the job of the words
-use Rattle.std.specs.Prelude.{◌≡◌, ℕ, List, length, nat_le, if◌then◌else◌, Option, Result, Ok, Err}
-use Rattle.std.specs.Option.{ok_or}
+--     with_sources files plan       the plan with the bytes of its sources
+--     IsAccepted words files answer     the job of the words of a run, whose plan has one vertex with one task
+use Rattle.std.specs.Prelude.{◌≡◌, ℕ, ◌-◌, ◌&&◌, ◌==◌, Bool, not, List, [], ◌∷◌, length, nat_le, if◌then◌else◌, Option, Result, Ok, Err}
+use Rattle.std.specs.List.{filter, flat_map}
+use Rattle.std.specs.Option.{ok_or, option_map_or}
+use Rattle.std.specs.Str.{bytes_eq}
 use Rattle.tez_conf.specs.declared.values.ConfValues.{ConfValues}
-use Rattle.tez_plan.specs.Dag.{Dag}
+use Rattle.tez_plan.specs.declared.parts.VertexSpec.{VertexSpec}
+use Rattle.tez_plan.specs.Dag.{Dag, tasks_of}
 use Rattle.tez_dag_json.specs.Due.{IsDue}
 use Rattle.tez_ports.specs.Content.{Named, bytes_of}
+use Rattle.tez_meaning.specs.Jobs.{Job, job_of}
 use Rattle.tez_am.specs.Words.{dag_word}
-use Rattle.tez_am.specs.FirstPath.{first_path}
-use Rattle.tez_am.specs.declared.job.Form.{Form}
-use Rattle.tez_am.specs.declared.job.Job.{Job}
 use Rattle.tez_am.specs.declared.status.Status.{Status}
 use Rattle.tez_am.specs.declared.status.Status.TheVariants.{Usage, DagRefused, InputMissing, InputTooLarge, OtherForm}
 
@@ -21,7 +21,7 @@ use Rattle.tez_am.specs.declared.status.Status.TheVariants.{Usage, DagRefused, I
 abbrev pub dag_limit : ℕ
 dag_limit = 1048576
 
--- bytes of a source
+-- bytes of all sources together
 abbrev pub source_limit : ℕ
 source_limit = 67108864
 
@@ -67,25 +67,46 @@ pub record AfterDag {A : Type 0} (next : Named → Planned → Result A Status) 
   pub is : IsDag word files dag
   pub rest : answer ≡ and_then dag (next files)
 
--- the form of a plan that can be run
-abbrev pub planned_form : Named → Planned → Result Form Status
-planned_form files said = ok_or (first_path said.0) OtherForm
+-- ---- the sources
 
--- the job of a form and the bytes of its source
-abbrev pub with_source : Form → List ℕ → Result Job Status
-with_source form source = Ok (record { form = form; source = source })
+-- each name once, in the order in which they come first
+abbrev pub each_once : List (List ℕ) → List (List ℕ)
+each_once [] = []
+each_once (name ∷ names) = name ∷ filter (λ other. not (bytes_eq name other)) (each_once names)
 
-abbrev pub form_job : Named → Form → Result Job Status
-form_job files form = and_then (content form.source source_limit files) (with_source form)
+abbrev pub source_of : VertexSpec → List (List ℕ)
+source_of s = option_map_or (λ name. name ∷ []) s.source []
 
-abbrev pub planned_job : Named → Planned → Result Job Status
-planned_job files said = and_then (planned_form files said) (form_job files)
+abbrev pub source_names : Dag → List (List ℕ)
+source_names p = each_once (flat_map source_of p.vertices)
 
-abbrev pub IsForm : Option (List ℕ) → Named → Result Form Status → Type 0
-IsForm word files answer = AfterDag planned_form word files answer
+-- the bytes of files of these names, which have together at most `left` bytes
+abbrev pub contents : Named → ℕ → List (List ℕ) → Result Named Status
+contents files left [] = Ok []
+contents files left (name ∷ names) = and_then (content name left files) (λ bytes. and_then (contents files (left - length bytes) names) (λ rest. Ok ((name, bytes) ∷ rest)))
+
+unfoldable pub with_sources : Named → Dag → Result Job Status
+with_sources files plan = and_then (contents files source_limit (source_names plan)) (λ sources. Ok (job_of plan sources))
+
+-- ---- a run
+
+-- one vertex with one task
+abbrev pub is_one_task : Dag → Bool
+is_one_task p = length p.vertices == 1 && tasks_of p 0 == 1
+
+abbrev pub runnable : Dag → Result Dag Status
+runnable plan = if is_one_task plan then Ok plan else Err OtherForm
+
+abbrev pub run_job : Named → Planned → Result Job Status
+run_job files said = and_then (runnable said.0) (with_sources files)
 
 abbrev pub IsJob : Option (List ℕ) → Named → Result Job Status → Type 0
-IsJob word files answer = AfterDag planned_job word files answer
+IsJob word files answer = AfterDag run_job word files answer
 
 abbrev pub IsAccepted : List (List ℕ) → Named → Result Job Status → Type 0
 IsAccepted words files answer = IsJob (dag_word words) files answer
+
+-- ---- a meaning
+
+abbrev pub any_job : Named → Planned → Result Job Status
+any_job files said = with_sources files said.0

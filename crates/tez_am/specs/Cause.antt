@@ -1,17 +1,17 @@
 -- When each answer comes, and what it leaves.
-use Rattle.std.specs.Prelude.{◌≡◌, ◌≢◌, ◌⊎◌, ⊤, ℕ, List, codes, None, IsSome, Result, Ok, Err}
+use Rattle.std.specs.Prelude.{◌≡◌, ◌⊎◌, ⊤, ℕ, true, List, codes, Some, None, Result, Ok, Err}
 use Rattle.tez_ports.specs.Causes.{Rose}
-use Rattle.tez_ports.specs.Content.{Named, Told, bytes_of}
+use Rattle.tez_ports.specs.Content.{Named, Told}
+use Rattle.tez_meaning.specs.Jobs.{Job}
+use Rattle.tez_meaning.specs.Value.{bad}
 use Rattle.tez_am.specs.Accept.{IsAccepted}
 use Rattle.tez_am.specs.Call.{Reads, Writes, Call, StoreFailed, Wrote, WrotePart}
-use Rattle.tez_am.specs.Meaning.{summary_of}
-use Rattle.tez_am.specs.Publish.{SamePublications, Publishes}
-use Rattle.tez_am.specs.Text.{success_text, status_text}
+use Rattle.tez_am.specs.Publish.{SamePublications, Publishes, first_taken, is_sink}
+use Rattle.tez_am.specs.Text.{success_text, spent_text, status_text}
 use Rattle.tez_am.specs.Words.{dag_word}
-use Rattle.tez_am.specs.declared.job.Job.{Job}
 use Rattle.tez_am.specs.declared.status.Device.TheVariants as device
 use Rattle.tez_am.specs.declared.status.Status.{Status}
-use Rattle.tez_am.specs.declared.status.Status.TheVariants.{Succeeded, Usage, DagRefused, InputMissing, InputTooLarge, InputFault, OtherForm, SinkExists, DeviceFault, OutFault, NoMemory}
+use Rattle.tez_am.specs.declared.status.Status.TheVariants.{Succeeded, Usage, DagRefused, InputMissing, InputTooLarge, InputFault, OtherForm, SinkExists, AttemptsSpent, DeviceFault, MeaningUndefined, OutFault, NoMemory}
 
 -- a check of the input files is to end in this refusal
 abbrev pub IsRefused : {A : Type 0} → (Named → Result A Status → Type 0) → Reads → Status → Type 0
@@ -35,6 +35,10 @@ Refusal check reads _ = ⊥
 abbrev pub ForJob : Call → (Job → Type 0) → Type 0
 ForJob c P = Told c.reads.files (λ m. (job : Job) × IsAccepted c.words m (Ok job) × P job)
 
+-- the same, where the store tells its publications
+abbrev pub AtStore : Call → (Job → Named → Type 0) → Type 0
+AtStore c P = Told c.store.old (λ s. ForJob c (λ job. P job s.publications))
+
 -- when each answer comes
 unfoldable pub Cause : Call → Status → Type 0
 Cause c Succeeded = ForJob c (λ job. Publishes job c.store)
@@ -44,34 +48,84 @@ Cause c (InputMissing name) = IsRefused (IsAccepted c.words) c.reads (InputMissi
 Cause c (InputTooLarge name) = IsRefused (IsAccepted c.words) c.reads (InputTooLarge name)
 Cause c (InputFault name) = ReadFailed c.reads name
 Cause c OtherForm = IsRefused (IsAccepted c.words) c.reads OtherForm
-Cause c (SinkExists name) = ForJob c (λ job. name ≡ job.form.sink) × Told c.store.old (λ s. IsSome (bytes_of name s.publications))
+Cause c (SinkExists name) = ForJob c (λ job. is_sink job.plan name ≡ true) × AtStore c (λ job publications. first_taken job.plan publications ≡ Some name)
+Cause c (AttemptsSpent vertex task) = (vertex.0 ≡ 0) × (task ≡ 0) × ForJob c (λ job. bad job 0 ≡ true) × AtStore c (λ job publications. first_taken job.plan publications ≡ None)
 Cause c (DeviceFault device.Store) = StoreFailed c.store × ForJob c (λ job. ⊤)
 Cause c (DeviceFault device.Disk) = ⊥
+Cause c (MeaningUndefined name) = ⊥
 Cause c OutFault = Rose c.out.before c.out.now
 Cause c NoMemory = ⊤
 
--- nothing was published, or the job's sink, once
+-- nothing was published, or the job's sinks, once
 abbrev pub MayPublish : Call → Type 0
 MayPublish c = SamePublications c.store ⊎ ForJob c (λ job. Publishes job c.store)
 
--- the store is as it was, and the text says why
-abbrev pub Refuses : Call → Status → Type 0
-Refuses c status = (c.store.new ≡ c.store.old) × Wrote (status_text status) c.out
+-- the store is as it was
+abbrev pub SameStore : Call → Type 0
+SameStore c = c.store.new ≡ c.store.old
+
+-- what each answer leaves in the store
+unfoldable pub Leaves : Call → Status → Type 0
+Leaves c Succeeded = ForJob c (λ job. Publishes job c.store)
+Leaves c Usage = SameStore c
+Leaves c (DagRefused fault) = SameStore c
+Leaves c (InputMissing name) = SameStore c
+Leaves c (InputTooLarge name) = SameStore c
+Leaves c (InputFault name) = SameStore c
+Leaves c OtherForm = SameStore c
+Leaves c (SinkExists name) = SameStore c
+Leaves c (AttemptsSpent vertex task) = SameStore c
+Leaves c (DeviceFault d) = MayPublish c
+Leaves c (MeaningUndefined name) = ⊥
+Leaves c OutFault = MayPublish c
+Leaves c NoMemory = MayPublish c
+
+-- ---- the text
 
 -- out of memory was said, or not, or in part as out failed
 abbrev pub SaidNoMemory : Writes → Type 0
 SaidNoMemory out = Wrote (codes "NO MEMORY\n") out ⊎ (out.new ≡ out.old) ⊎ (Rose out.before out.now × WrotePart (codes "NO MEMORY\n") out)
 
--- what each answer leaves in the store and in the text
-unfoldable pub Leaves : Call → Status → Type 0
-Leaves c Succeeded = ForJob c (λ job. Publishes job c.store × Wrote (success_text (summary_of job)) c.out)
-Leaves c Usage = Refuses c Usage
-Leaves c (DagRefused fault) = Refuses c (DagRefused fault)
-Leaves c (InputMissing name) = Refuses c (InputMissing name)
-Leaves c (InputTooLarge name) = Refuses c (InputTooLarge name)
-Leaves c (InputFault name) = Refuses c (InputFault name)
-Leaves c OtherForm = Refuses c OtherForm
-Leaves c (SinkExists name) = Refuses c (SinkExists name)
-Leaves c (DeviceFault d) = MayPublish c × Wrote (status_text (DeviceFault d)) c.out
-Leaves c OutFault = MayPublish c × (ForJob c (λ job. WrotePart (success_text (summary_of job)) c.out) ⊎ ((s : Status) × (s ≢ NoMemory) × Cause c s × WrotePart (status_text s) c.out))
-Leaves c NoMemory = MayPublish c × SaidNoMemory c.out
+-- the text of an answer that has one
+abbrev pub IsTextOf : Call → Status → List ℕ → Type 0
+IsTextOf c Succeeded text = ForJob c (λ job. text ≡ success_text job)
+IsTextOf c Usage text = text ≡ status_text Usage
+IsTextOf c (DagRefused fault) text = text ≡ status_text (DagRefused fault)
+IsTextOf c (InputMissing name) text = text ≡ status_text (InputMissing name)
+IsTextOf c (InputTooLarge name) text = text ≡ status_text (InputTooLarge name)
+IsTextOf c (InputFault name) text = text ≡ status_text (InputFault name)
+IsTextOf c OtherForm text = text ≡ status_text OtherForm
+IsTextOf c (SinkExists name) text = text ≡ status_text (SinkExists name)
+IsTextOf c (AttemptsSpent vertex task) text = ForJob c (λ job. text ≡ spent_text job.plan vertex.0 task)
+IsTextOf c (DeviceFault d) text = text ≡ status_text (DeviceFault d)
+IsTextOf c (MeaningUndefined name) text = text ≡ status_text (MeaningUndefined name)
+IsTextOf c OutFault text = ⊥
+IsTextOf c NoMemory text = ⊥
+
+-- the text of this answer was written
+abbrev pub Says : Call → Status → Type 0
+Says c status = (text : List ℕ) × IsTextOf c status text × Wrote text c.out
+
+-- the first part of the text of an answer that was due
+pub record SaysPart (c : Call) : Type 0 where
+  pub due : Status
+  pub cause : Cause c due
+  pub text : List ℕ
+  pub is : IsTextOf c due text
+  pub part : WrotePart text c.out
+
+-- what each answer leaves in the text
+unfoldable pub Writing : Call → Status → Type 0
+Writing c Succeeded = Says c Succeeded
+Writing c Usage = Says c Usage
+Writing c (DagRefused fault) = Says c (DagRefused fault)
+Writing c (InputMissing name) = Says c (InputMissing name)
+Writing c (InputTooLarge name) = Says c (InputTooLarge name)
+Writing c (InputFault name) = Says c (InputFault name)
+Writing c OtherForm = Says c OtherForm
+Writing c (SinkExists name) = Says c (SinkExists name)
+Writing c (AttemptsSpent vertex task) = Says c (AttemptsSpent vertex task)
+Writing c (DeviceFault d) = Says c (DeviceFault d)
+Writing c (MeaningUndefined name) = ⊥
+Writing c OutFault = SaysPart c
+Writing c NoMemory = SaidNoMemory c.out

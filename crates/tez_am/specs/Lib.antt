@@ -1,11 +1,14 @@
 pub mod Accept
 pub mod Call
 pub mod Cause
-pub mod FirstPath
 pub mod Meaning
 pub mod Publish
 pub mod Rows
+pub mod Run
 pub mod Say
+pub mod Sources
 pub mod Text
 pub mod Words
+pub mod Work
 pub mod Tool
+pub mod Mean

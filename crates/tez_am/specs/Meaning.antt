@@ -1,20 +1,21 @@
--- What the sink of a job is to hold.
---     sink_records job      the lines of the source whose field at the column contains the value, in byte order
---     sink_text job         each of them followed by a line feed
---     summary_of job        what is said of the sink
-use Rattle.std.specs.Prelude.{ℕ, List, length, filter}
-use Rattle.tez_record.specs.Line.{lines}
-use Rattle.tez_record.specs.Field.{field}
-use Rattle.tez_record.specs.Find.{has_part}
-use Rattle.tez_record.specs.Bag.{sort, text}
-use Rattle.tez_am.specs.declared.job.Job.{Job}
-use Rattle.tez_am.specs.declared.job.Summary.{Summary}
+-- What is said of the sinks of a job.
+--     sink_line name records bytes      the line of a sink
+--     summary job                       the line of each sink, in the order of vertices
+--     meaning_text job                  each of these lines, with the sink's text after it
+use Rattle.std.specs.Prelude.{ℕ, List, ◌++◌, codes, length, decimal}
+use Rattle.std.specs.List.{flat_map}
+use Rattle.tez_meaning.specs.Jobs.{Job}
+use Rattle.tez_meaning.specs.Value.{value, sink_text, sinks}
 
-unfoldable pub sink_records : Job → List (List ℕ)
-sink_records job = sort (filter (λ line. has_part (field line job.form.column) job.form.value) (lines job.source))
+unfoldable pub sink_line : List ℕ → ℕ → ℕ → List ℕ
+sink_line name records bytes = codes "sink " ++ name ++ codes " records " ++ decimal records ++ codes " bytes " ++ decimal bytes ++ codes "\n"
 
-abbrev pub sink_text : Job → List ℕ
-sink_text job = text (sink_records job)
+-- the line of the sink of this vertex
+abbrev pub line_of : Job → ℕ × List ℕ → List ℕ
+line_of job sink = sink_line sink.1 (length (value job sink.0)) (length (sink_text job sink.0))
 
-abbrev pub summary_of : Job → Summary
-summary_of job = record { sink = job.form.sink; records = length (sink_records job); bytes = length (sink_text job) }
+abbrev pub summary : Job → List ℕ
+summary job = flat_map (line_of job) (sinks 0 job.plan.vertices)
+
+abbrev pub meaning_text : Job → List ℕ
+meaning_text job = flat_map (λ sink. line_of job sink ++ sink_text job sink.0) (sinks 0 job.plan.vertices)

@@ -1,11 +1,14 @@
 -- Which answer is to come, unless a device fails or memory is short.
-use Rattle.std.specs.Prelude.{◌≡◌, ◌⊎◌, ℕ, List, Option, Some, None, IsSome, Ok, Err}
-use Rattle.tez_ports.specs.Content.{Named, Store, bytes_of}
+use Rattle.std.specs.Prelude.{◌≡◌, ◌⊎◌, ℕ, true, false, List, Option, Some, None, Ok, Err}
+use Rattle.tez_ports.specs.Content.{Named, Store}
+use Rattle.tez_plan.specs.Dag.{vertex}
+use Rattle.tez_meaning.specs.Jobs.{Job}
+use Rattle.tez_meaning.specs.Value.{bad}
 use Rattle.tez_am.specs.Accept.{IsAccepted}
-use Rattle.tez_am.specs.declared.job.Job.{Job}
+use Rattle.tez_am.specs.Publish.{first_taken}
 use Rattle.tez_am.specs.declared.status.Device.TheVariants as device
 use Rattle.tez_am.specs.declared.status.Status.{Status}
-use Rattle.tez_am.specs.declared.status.Status.TheVariants.{Succeeded, InputFault, SinkExists, DeviceFault, OutFault, NoMemory}
+use Rattle.tez_am.specs.declared.status.Status.TheVariants.{Succeeded, InputFault, SinkExists, AttemptsSpent, DeviceFault, OutFault, NoMemory}
 
 -- this answer, unless its text could not be written, or memory is short
 abbrev pub IsAnswer : Status → Status → Type 0
@@ -21,7 +24,9 @@ IsAnswerOfRun due answer = IsAnswerOfReads due answer ⊎ (answer ≡ DeviceFaul
 
 pub record KeepsRows (words : List (List ℕ)) (files : Named) (store : Option Store) (answer : Status) : Type 0 where
   pub refused : (refusal : Status) → IsAccepted words files (Err refusal) → IsAnswerOfReads refusal answer
-  pub exists : (job : Job) → IsAccepted words files (Ok job) → (s : Store) → store ≡ Some s → IsSome (bytes_of job.form.sink s.publications)
-      → IsAnswerOfRun (SinkExists job.form.sink) answer
-  pub succeeds : (job : Job) → IsAccepted words files (Ok job) → (s : Store) → store ≡ Some s → bytes_of job.form.sink s.publications ≡ None
+  pub exists : (job : Job) → IsAccepted words files (Ok job) → (s : Store) → store ≡ Some s → (name : List ℕ) → first_taken job.plan s.publications ≡ Some name
+      → IsAnswerOfRun (SinkExists name) answer
+  pub spent : (job : Job) → IsAccepted words files (Ok job) → (s : Store) → store ≡ Some s → first_taken job.plan s.publications ≡ None → bad job 0 ≡ true
+      → IsAnswerOfRun (AttemptsSpent (vertex 0) 0) answer
+  pub succeeds : (job : Job) → IsAccepted words files (Ok job) → (s : Store) → store ≡ Some s → first_taken job.plan s.publications ≡ None → bad job 0 ≡ false
       → IsAnswerOfRun Succeeded answer

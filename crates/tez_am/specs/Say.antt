@@ -3,29 +3,30 @@ use Rattle.std.specs.Prelude.{◌≡◌, ◌≢◌, ◌⊎◌, ℕ, List, Result
 use Rattle.tez_ports.specs.Causes.{Rose}
 use Rattle.tez_am.specs.Call.{Writes, Wrote, WrotePart}
 use Rattle.tez_am.specs.Cause.{SaidNoMemory}
-use Rattle.tez_am.specs.Text.{success_text, status_text}
-use Rattle.tez_am.specs.declared.job.Summary.{Summary}
+use Rattle.tez_am.specs.Text.{spent_line, status_text}
+use Rattle.tez_am.specs.declared.failure.Failure.{Failure}
+use Rattle.tez_am.specs.declared.failure.Failure.TheVariants.{Because, Spent}
 use Rattle.tez_am.specs.declared.status.Status.{Status}
-use Rattle.tez_am.specs.declared.status.Status.TheVariants.{Succeeded, OutFault, NoMemory}
+use Rattle.tez_am.specs.declared.status.Status.TheVariants.{Succeeded, AttemptsSpent, OutFault, NoMemory}
 
--- the answer of a run that ended so, where nothing fails any more
-abbrev pub answer_of : Result Summary Status → Status
-answer_of (Ok summary) = Succeeded
-answer_of (Err refusal) = refusal
+-- the answer to a failure, and its text
+abbrev pub status_of : Failure → Status
+status_of (Because status) = status
+status_of (Spent vertex task name) = AttemptsSpent vertex task
+
+abbrev pub failure_text : Failure → List ℕ
+failure_text (Because status) = status_text status
+failure_text (Spent vertex task name) = spent_line name task
+
+-- the answer of a call that ended so, where nothing fails any more
+abbrev pub answer_of : Result (List ℕ) Failure → Status
+answer_of (Ok text) = Succeeded
+answer_of (Err failure) = status_of failure
 
 -- and its text
-abbrev pub text_of : Result Summary Status → List ℕ
-text_of (Ok summary) = success_text summary
-text_of (Err refusal) = status_text refusal
-
--- the same of a check, whose text is what it gave
-abbrev pub checked_of : Result (List ℕ) Status → Status
-checked_of (Ok text) = Succeeded
-checked_of (Err refusal) = refusal
-
-abbrev pub checked_text : Result (List ℕ) Status → List ℕ
-checked_text (Ok text) = text
-checked_text (Err refusal) = status_text refusal
+abbrev pub text_of : Result (List ℕ) Failure → List ℕ
+text_of (Ok text) = text
+text_of (Err failure) = failure_text failure
 
 -- all of the text was written, and the answer stands; or out failed; or memory is short
 abbrev pub Said : Status → List ℕ → Writes → Status → Type 0

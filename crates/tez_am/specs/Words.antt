@@ -2,6 +2,7 @@
 --     file_of command words     the file of `COMMAND FILE`, and None of any other words
 --     dag_word words            the DAG file of `run FILE`
 --     check_word words          the DAG file of `check FILE`
+--     meaning_word words        the DAG file of `meaning FILE`
 --     is_for_run words          the first word is that of a run
 use Rattle.std.specs.Prelude.{ℕ, ◌&&◌, ◌||◌, ◌==◌, List, [], ◌∷◌, codes, Bool, false, not, bytes_eq, if◌then◌else◌, Option, Some, None}
 
@@ -21,6 +22,9 @@ dag_word words = file_of (codes "run") words
 
 abbrev pub check_word : List (List ℕ) → Option (List ℕ)
 check_word words = file_of (codes "check") words
+
+abbrev pub meaning_word : List (List ℕ) → Option (List ℕ)
+meaning_word words = file_of (codes "meaning") words
 
 abbrev pub is_run_word : List ℕ → Bool
 is_run_word command = bytes_eq command (codes "run") || bytes_eq command (codes "resume") || bytes_eq command (codes "drill")

@@ -3,7 +3,8 @@ ghost use Rattle.std.specs.Prelude.{◌≡◌, ◌≤◌, ◌≢◌, ℕ, List, 
 ghost use Rattle.tez_am.specs.Accept.{IsDag};
 ghost use Rattle.tez_am.specs.Call.{reads_of};
 ghost use Rattle.tez_am.specs.Cause.{Refusal};
-ghost use Rattle.tez_am.specs.Tool.{check_text, Says};
+ghost use Rattle.tez_am.specs.Mean.{Checks};
+ghost use Rattle.tez_am.specs.Tool.{check_text};
 
 use crate::accept::read_plan;
 use crate::status::Status;
@@ -25,7 +26,7 @@ fn text(alloc: Global, plan: &Plan, conf: &Conf) -> Result<Bytes, AllocError>
 
 /// What is to be said of the DAG file of this name.
 pub fn check<F: InputFiles>(alloc: Global, word: &str, files: &mut F) -> Result<Bytes, Status>
-    ensures text { IfOk result (λ text. Says (Some word.now) (F.files files.old) (λ said. text ≡ check_text said)) }
+    ensures text { IfOk result (Checks (Some word.now) (F.files files.old)) }
     ensures refusal { IfErr result (Refusal (IsDag (Some word.now)) (reads_of F.files F.faults F.failed files.old files.new)) }
     ensures no_form { IfErr result (λ s. s ≢ Status.OtherForm) }
     ensures sure { F.is_sure files.old → IfErr result (λ s. (n : List ℕ) → s ≢ Status.InputFault n) }

@@ -1,5 +1,5 @@
 // The input files of a run.
-ghost use Rattle.std.specs.Prelude.{◌≡◌, ◌≤◌, ◌≢◌, ◌⊎◌, ℕ, List, IfOk, IfErr};
+ghost use Rattle.std.specs.Prelude.{◌≡◌, ◌≤◌, ◌≢◌, ◌⊎◌, ℕ, List, length, IfOk, IfErr};
 ghost use Rattle.tez_ports.specs.Content.{Told};
 ghost use Rattle.tez_am.specs.Call.{reads_of};
 ghost use Rattle.tez_am.specs.Accept.{content, IsContent};
@@ -20,6 +20,7 @@ pub fn input<F: InputFiles>(
     ensures same { F.files files.new ≡ F.files files.old }
     ensures later { F.faults files.old ≤ F.faults files.new }
     ensures stays_sure { F.is_sure files.old → F.is_sure files.new }
+    ensures fits { IfOk result (λ v. length v.items ≤ limit) }
     ensures bytes { IfOk result (λ v. Told (F.files files.old) (λ m. content name.now limit m ≡ Ok v.items)) }
     ensures refusal { IfErr result (Refusal (IsContent name.now limit) (reads_of F.files F.faults F.failed files.old files.new)) }
     ensures no_form { IfErr result (λ s. s ≢ Status.OtherForm) }

@@ -3,12 +3,13 @@
 
 mod accept;
 mod check;
-mod form;
+mod failure;
 mod input;
-mod job;
+mod mean;
 mod operate;
 mod run;
 mod say;
+mod sources;
 mod status;
 mod text;
 mod tool;

@@ -2,7 +2,7 @@ ghost use Rattle.std.specs.Prelude.{◌≡◌};
 ghost use Rattle.tez_am.specs.Text.{exit_of};
 
 use tez_dag_json::DagFault;
-use tez_ids::Name;
+use tez_ids::{Name, VertexId};
 
 /// A device that a call may fail at, beside its inputs and its text.
 #[derive(Clone, Copy, Debug, PartialEq, Eq)]
@@ -14,7 +14,7 @@ pub enum Device {
 /// How a call ended.
 #[derive(Debug, Drop)]
 pub enum Status {
-    /// The sink is published, and the text says so; of a tool, its text is written.
+    /// The sinks are published, and the text says so; of a tool, its text is written.
     Succeeded,
     /// The words are no command.
     Usage,
@@ -30,8 +30,12 @@ pub enum Status {
     OtherForm,
     /// The sink of this name was published before.
     SinkExists(Name),
+    /// The task's attempts are spent: it meets a bad record.
+    AttemptsSpent { vertex: VertexId, task: u32 },
     /// A call of this device failed.
     DeviceFault(Device),
+    /// The vertex of this name is the first that meets a bad record.
+    MeaningUndefined(Name),
     /// The text could not be written. What is published stands.
     OutFault,
     NoMemory,
@@ -49,9 +53,11 @@ pub fn exit_code(status: &Status) -> u8
         Status::InputTooLarge(_) => 5,
         Status::InputFault(_) => 6,
         Status::SinkExists(_) => 7,
+        Status::AttemptsSpent { .. } => 10,
         Status::DeviceFault(_) => 12,
         Status::OutFault => 14,
         Status::NoMemory => 15,
+        Status::MeaningUndefined(_) => 16,
         Status::OtherForm => 19,
     }
 }

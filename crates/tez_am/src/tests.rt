@@ -27,6 +27,10 @@ const CYCLE: &str =
 const KEYLESS: &str =
     "{\"name\":\"d\",\"vertices\":[{\"name\":\"a\",\"tasks\":1,\"source\":\"in.txt\",\"head\":{\"op\":\"each\"}},{\"name\":\"b\",\"tasks\":1,\"head\":{\"op\":\"sum\",\"value\":1},\"sink\":\"out\"}],\"edges\":[{\"from\":\"a\",\"to\":\"b\",\"movement\":\"ONE_TO_ONE\"}]}";
 
+/// A sum of sums: the first total has 19 digits.
+const AGAIN: &str =
+    "{\"name\":\"again\",\"vertices\":[{\"name\":\"load\",\"tasks\":1,\"source\":\"in.txt\",\"head\":{\"op\":\"each\"}},{\"name\":\"first\",\"tasks\":1,\"head\":{\"op\":\"sum\",\"value\":1}},{\"name\":\"again\",\"tasks\":1,\"head\":{\"op\":\"sum\",\"value\":1},\"sink\":\"out\"}],\"edges\":[{\"from\":\"load\",\"to\":\"first\",\"movement\":\"SCATTER_GATHER\",\"keys\":[0]},{\"from\":\"first\",\"to\":\"again\",\"movement\":\"SCATTER_GATHER\",\"keys\":[0]}]}";
+
 const USAGE: &str =
     "usage: tez run or resume DAG [--script FILE] [--trace], drill SEED LINES, check DAG, meaning DAG, audit DAG TRACE, generate SEED LINES\n";
 
@@ -445,14 +449,84 @@ fn exit_of(alloc: Global, words: &[&str], dag: &[u8], source: &[u8]) -> Result<u
     Ok(exit_code(&status))
 }
 
-/// A configuration may stand in what is run, and no change of the form.
+/// A record that a filter by numbers cannot read fails the run, and nothing is published.
+#[test]
+fn fails_at_a_bad_record(rt: HostRuntime) -> Result<(), Fail> {
+    let alloc = rt.alloc();
+    let dag = changed(
+        alloc,
+        ONE,
+        "\"contains\",\"value\":\"b\"",
+        "\"gt\",\"value\":5",
+    )?;
+    let failed = Row {
+        words: RUN,
+        dag: dag.as_str(),
+        source: "7\nx\n",
+        faults: NONE,
+        exit: 10,
+        text: "FAILED attempts only 0\n",
+        sink: ABSENT,
+    };
+    try_row(&rt, alloc, &failed)?;
+    let row = Row {
+        source: "7\n5\n",
+        exit: 0,
+        text: "SUCCEEDED\nsink kept records 1 bytes 2\n",
+        sink: "7\n",
+        ..failed
+    };
+    try_row(&rt, alloc, &row)
+}
+
+/// What a DAG of several vertices means, without a run.
+#[test]
+fn means(rt: HostRuntime) -> Result<(), Fail> {
+    let words = Row {
+        words: &["meaning", "one.json"],
+        dag: WC,
+        source: "a b a\n",
+        faults: NONE,
+        exit: 0,
+        text: "sink counts records 2 bytes 8\na\t2\nb\t1\n",
+        sink: ABSENT,
+    };
+    let rows = [
+        words,
+        Row {
+            dag: AGAIN,
+            source: "k\t999999999999999999\nk\t999999999999999999\n",
+            exit: 16,
+            text: "REFUSED meaning again\n",
+            ..words
+        },
+        Row {
+            source: ABSENT,
+            exit: 4,
+            text: "REFUSED input missing in.txt\n",
+            ..words
+        },
+        Row {
+            faults: Faults { read: 2, ..NONE },
+            exit: 6,
+            text: "REFUSED input fault in.txt\n",
+            ..words
+        },
+    ];
+    for row in rows.iter() {
+        try_row(&rt, rt.alloc(), row)?;
+    }
+    Ok(())
+}
+
+/// Any program may stand in what is run, and a configuration, but one vertex with one task.
 #[test]
 fn runs_no_other_form(rt: HostRuntime) -> Result<(), Fail> {
     let alloc = rt.alloc();
     let changes = [
         ("\"tasks\":1", "\"tasks\":2", 19),
-        ("contains", "eq", 19),
-        ("\"steps\":[", "\"steps\":[{\"op\":\"tokenise\"},", 19),
+        ("contains", "eq", 0),
+        ("\"steps\":[", "\"steps\":[{\"op\":\"tokenise\"},", 0),
         ("\"field\":0", "\"field\":255", 0),
         ("\"one\"", "\"one\",\"edges\":[],\"conf\":{\"nodes\":3}", 0),
     ];

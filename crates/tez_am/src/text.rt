@@ -1,23 +1,63 @@
 // The texts of the answers.
-ghost use Rattle.std.specs.Prelude.{◌≡◌, ◌++◌, [], ◌∷◌, IfOk, string_bytes};
-ghost use Rattle.tez_am.specs.Text.{success_text, status_text, dag_fault_text, plan_fault_text};
+ghost use Rattle.std.specs.Prelude.{◌≡◌, ◌++◌, [], ◌∷◌, IfOk, codes, string_bytes};
+ghost use Rattle.tez_am.specs.Meaning.{sink_line as sink_line_of};
+ghost use Rattle.tez_am.specs.Say.{failure_text};
+ghost use Rattle.tez_am.specs.Text.{spent_line, status_text, dag_fault_text, plan_fault_text};
 
-use crate::job::Summary;
+use crate::failure::Failure;
 use crate::status::{Device, Status};
 use std::alloc::{AllocError, Global};
 use tez_dag_json::{DagFault, word_and_place};
+use tez_ids::Bytes;
 use tez_plan::PlanFault;
 
-/// What is said of a published sink.
-pub fn success(alloc: Global, summary: &Summary) -> Result<String, AllocError>
-    ensures { IfOk result (λ s. string_bytes s ≡ success_text summary.now) }
+/// The line of a sink.
+#[tactic(auto, unfolding(crate::specs::Meaning::sink_line))]
+pub fn sink_line(
+    alloc: Global,
+    name: &str,
+    records: usize,
+    bytes: usize,
+) -> Result<String, AllocError>
+    ensures { IfOk result (λ s. string_bytes s ≡ sink_line_of name.now records bytes) }
 {
-    let mut text = String::from_str(alloc, "SUCCEEDED\nsink ")?;
-    text.push_str(summary.sink.as_str())?;
+    let mut text = String::from_str(alloc, "sink ")?;
+    text.push_str(name)?;
     text.push_str(" records ")?;
-    text.push_str(summary.records.to_string(alloc)?.as_str())?;
+    text.push_str(records.to_string(alloc)?.as_str())?;
     text.push_str(" bytes ")?;
-    text.push_str(summary.bytes.to_string(alloc)?.as_str())?;
+    text.push_str(bytes.to_string(alloc)?.as_str())?;
+    text.push_str("\n")?;
+    Ok(text)
+}
+
+/// What is said of one published sink.
+pub fn success(alloc: Global, name: &str, records: usize, bytes: usize) -> Result<Bytes, AllocError>
+    ensures { IfOk result (λ text. text ≡ codes "SUCCEEDED\n" ++ sink_line_of name.now records bytes) }
+{
+    let mut text = Vec::from_slice(alloc, b"SUCCEEDED\n")?;
+    text.extend_from_slice(sink_line(alloc, name, records, bytes)?.as_bytes())?;
+    Ok(Bytes::new(text))
+}
+
+/// What is said of a failure.
+pub fn failure(alloc: Global, failure: &Failure) -> Result<String, AllocError>
+    ensures { IfOk result (λ s. string_bytes s ≡ failure_text failure.now) }
+{
+    match failure {
+        Failure::Because(status) => refusal(alloc, status),
+        Failure::Spent { task, name, .. } => spent(alloc, name.as_str(), *task),
+    }
+}
+
+#[tactic(auto, unfolding(crate::specs::Text::spent_line))]
+fn spent(alloc: Global, name: &str, task: u32) -> Result<String, AllocError>
+    ensures { IfOk result (λ s. string_bytes s ≡ spent_line name.now task) }
+{
+    let mut text = String::from_str(alloc, "FAILED attempts ")?;
+    text.push_str(name)?;
+    text.push_str(" ")?;
+    text.push_str(task.to_string(alloc)?.as_str())?;
     text.push_str("\n")?;
     Ok(text)
 }
@@ -38,6 +78,8 @@ pub fn refusal(alloc: Global, status: &Status) -> Result<String, AllocError>
         Status::InputFault(name) => named(alloc, "REFUSED input fault ", name.as_str()),
         Status::OtherForm => String::from_str(alloc, "REFUSED other form\n"),
         Status::SinkExists(name) => named(alloc, "REFUSED sink exists ", name.as_str()),
+        Status::AttemptsSpent { .. } => Ok(String::new(alloc)),
+        Status::MeaningUndefined(name) => named(alloc, "REFUSED meaning ", name.as_str()),
         Status::DeviceFault(Device::Disk) => String::from_str(alloc, "FAILED device disk\n"),
         Status::DeviceFault(Device::Store) => String::from_str(alloc, "FAILED device store\n"),
         Status::NoMemory => String::from_str(alloc, "NO MEMORY\n"),

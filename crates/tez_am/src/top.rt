@@ -2,11 +2,12 @@
 ghost use Rattle.std.specs.Prelude.{◌≡◌, ◌≢◌, ℕ, List, [], None, map, string_bytes};
 ghost use Rattle.tez_ports.specs.Content.{Told};
 ghost use Rattle.tez_am.specs.Call.{reads_of, stored_of, writes_of};
-ghost use Rattle.tez_am.specs.Cause.{Cause, Leaves};
+ghost use Rattle.tez_am.specs.Cause.{Cause, Leaves, Writing};
 ghost use Rattle.tez_am.specs.Rows.{IsAnswer, KeepsRows};
 ghost use Rattle.tez_am.specs.Words.{dag_word};
 
 use crate::accept::accept;
+use crate::failure::Failure;
 use crate::run::run;
 use crate::say::say;
 use crate::status::{Device, Status};
@@ -15,10 +16,10 @@ use std::alloc::Global;
 use tez_events::Trace;
 use tez_ports::{Gate, InputFiles, JournalDisk, OutputStore, TextOut};
 
-/// Runs a command: publishes the sink of its DAG file once, with the kept records of the source in
-/// byte order, and says so, or says why not. The disk and the gate are not used, and the log stays
-/// empty. Linear in the source but for the sort; it holds the source, the kept records twice, and
-/// 32 bytes for each kept record.
+/// Runs a command: works the plan of its DAG file, which has one vertex with one task, publishes its
+/// sink once with the sorted records, and says so, or says why not. The disk and the gate are not
+/// used, and the log stays empty. It takes the time of `process` on the lines of the source; it
+/// holds the source, its lines, and what the program makes of them twice.
 pub fn am_run<F: InputFiles, S: OutputStore, D: JournalDisk, O: TextOut, G: Gate + Sync>(
     alloc: Global,
     words: &[String],
@@ -37,9 +38,17 @@ pub fn am_run<F: InputFiles, S: OutputStore, D: JournalDisk, O: TextOut, G: Gate
       store = stored_of S.store S.faults S.stops store.old store.new;
       out = writes_of O.written O.faults out.old out.new;
     }) result }
-    // Succeeded means that the sink was published exactly once, with exactly the kept records in byte
-    // order, and that the text says so. Each other answer says what it left.
+    // Succeeded means that the plan has a meaning over the source bytes, and each sink was published
+    // exactly once, with exactly the sorted records of that meaning. Each other answer says what it
+    // left in the store.
     ensures headline { Leaves (record {
+      words = map string_bytes words.now;
+      reads = reads_of F.files F.faults F.failed files.old files.new;
+      store = stored_of S.store S.faults S.stops store.old store.new;
+      out = writes_of O.written O.faults out.old out.new;
+    }) result }
+    // What was written is the text of the answer.
+    ensures text { Writing (record {
       words = map string_bytes words.now;
       reads = reads_of F.files F.faults F.failed files.old files.new;
       store = stored_of S.store S.faults S.stops store.old store.new;
@@ -56,10 +65,10 @@ pub fn am_run<F: InputFiles, S: OutputStore, D: JournalDisk, O: TextOut, G: Gate
     ensures log { _log.new ≡ _log.old }
 {
     let Some(word) = dag_file(words) else {
-        return say(alloc, out, Err(Status::Usage));
+        return say(alloc, out, Err(Failure::Because(Status::Usage)));
     };
     match accept(alloc, word, files) {
-        Ok(job) => say(alloc, out, run(alloc, job, store)),
-        Err(refusal) => say(alloc, out, Err(refusal)),
+        Ok(job) => say(alloc, out, run(alloc, &job, store)),
+        Err(refusal) => say(alloc, out, Err(Failure::Because(refusal))),
     }
 }

@@ -1,6 +1,6 @@
 // The words of a command.
 ghost use Rattle.std.specs.Prelude.{◌≡◌, option_map, map, string_bytes};
-ghost use Rattle.tez_am.specs.Words.{file_of, dag_word, check_word, is_file_word, is_run_word, is_for_run};
+ghost use Rattle.tez_am.specs.Words.{file_of, dag_word, check_word, meaning_word, is_file_word, is_run_word, is_for_run};
 
 /// The DAG file of `run FILE`, and none of any other words.
 pub fn dag_file(words: &[String]) -> Option<&str>
@@ -14,6 +14,13 @@ pub fn check_file(words: &[String]) -> Option<&str>
     ensures { option_map (λ s. s.now) result ≡ check_word (map string_bytes words.now) }
 {
     file_word("check", words)
+}
+
+/// The DAG file of `meaning FILE`, and none of any other words.
+pub fn meaning_file(words: &[String]) -> Option<&str>
+    ensures { option_map (λ s. s.now) result ≡ meaning_word (map string_bytes words.now) }
+{
+    file_word("meaning", words)
 }
 
 /// The file of this command and one file.

@@ -1,36 +1,40 @@
 use Rattle.std.proofs.Common.{sym}
-use Rattle.tez_am.proofs.Tools.{usage_cause, usage_leaves, refusal_cause, refusal_leaves, text_cause, text_leaves, rows_from_cause}
+use Rattle.tez_am.proofs.Tools.{usage_ends, checked_ends, meant_ends, rows_from_cause}
 use Rattle.tez_am.proofs.tool.tool.Goals as goal
-
--- words that are no command
-
-pub returns-in_default-clause-cause : goal.returns-in_default-clause-cause
-returns-in_default-clause-cause g c = usage_cause _ (sym c.in_default.ensures) c.say_check.result c.say_check.ensures.said
-
-pub returns-in_default-clause-leaves : goal.returns-in_default-clause-leaves
-returns-in_default-clause-leaves g c = usage_leaves _ (sym c.in_default.ensures) c.say_check.result c.say_check.ensures.said
-
-pub returns-in_default-clause-rows : goal.returns-in_default-clause-rows
-returns-in_default-clause-rows g c = rows_from_cause _ _ (returns-in_default-clause-cause g c)
 
 -- a check
 
-pub returns-in-Ok-clause-cause : goal.returns-in-Ok-clause-cause
-returns-in-Ok-clause-cause g c = text_cause _ _ _ (sym c.in-Some.ensures) c.in-Ok.ensures.text c.say_check-in-Ok.result c.say_check-in-Ok.ensures.said
+pub returns-in-Some-clause-cause : goal.returns-in-Some-clause-cause
+returns-in-Some-clause-cause g c = (checked_ends _ _ c.check.result c.ended.result c.say.result (sym c.in-Some.ensures) c.check.ensures.text c.check.ensures.no_form c.check.ensures.refusal c.ended.ensures.text c.ended.ensures.refusal c.say.ensures.said).cause
 
-pub returns-in-Ok-clause-leaves : goal.returns-in-Ok-clause-leaves
-returns-in-Ok-clause-leaves g c = text_leaves _ _ _ (sym c.in-Some.ensures) c.in-Ok.ensures.text c.say_check-in-Ok.result c.say_check-in-Ok.ensures.said
+pub returns-in-Some-clause-leaves : goal.returns-in-Some-clause-leaves
+returns-in-Some-clause-leaves g c = (checked_ends _ _ c.check.result c.ended.result c.say.result (sym c.in-Some.ensures) c.check.ensures.text c.check.ensures.no_form c.check.ensures.refusal c.ended.ensures.text c.ended.ensures.refusal c.say.ensures.said).leaves
 
-pub returns-in-Ok-clause-rows : goal.returns-in-Ok-clause-rows
-returns-in-Ok-clause-rows g c = rows_from_cause _ _ (returns-in-Ok-clause-cause g c)
+pub returns-in-Some-clause-rows : goal.returns-in-Some-clause-rows
+returns-in-Some-clause-rows g c = rows_from_cause _ _ (returns-in-Some-clause-cause g c)
 
--- a refusal
+-- a meaning
 
-pub returns-in-Err-clause-cause : goal.returns-in-Err-clause-cause
-returns-in-Err-clause-cause g c = refusal_cause _ _ (sym c.in-Some.ensures) c.in-Err.refusal c.say_check-in-Err.result c.in-Err.ensures.no_form c.in-Err.ensures.refusal c.say_check-in-Err.ensures.said
+pub returns-in-Some-meaning_file-clause-cause : goal.returns-in-Some-meaning_file-clause-cause
+returns-in-Some-meaning_file-clause-cause g c =
+    (meant_ends _ _ c.meaning.result c.ended-in-Some-meaning_file.result c.say-in-Some-meaning_file.result (sym c.in_default.ensures) (sym c.in-Some-meaning_file.ensures)
+    c.meaning.ensures.text c.meaning.ensures.no_form c.meaning.ensures.refusal c.ended-in-Some-meaning_file.ensures.text c.ended-in-Some-meaning_file.ensures.refusal c.say-in-Some-meaning_file.ensures.said).cause
 
-pub returns-in-Err-clause-leaves : goal.returns-in-Err-clause-leaves
-returns-in-Err-clause-leaves g c = refusal_leaves _ _ (sym c.in-Some.ensures) c.in-Err.refusal c.say_check-in-Err.result c.in-Err.ensures.no_form c.in-Err.ensures.refusal c.say_check-in-Err.ensures.said
+pub returns-in-Some-meaning_file-clause-leaves : goal.returns-in-Some-meaning_file-clause-leaves
+returns-in-Some-meaning_file-clause-leaves g c =
+    (meant_ends _ _ c.meaning.result c.ended-in-Some-meaning_file.result c.say-in-Some-meaning_file.result (sym c.in_default.ensures) (sym c.in-Some-meaning_file.ensures)
+    c.meaning.ensures.text c.meaning.ensures.no_form c.meaning.ensures.refusal c.ended-in-Some-meaning_file.ensures.text c.ended-in-Some-meaning_file.ensures.refusal c.say-in-Some-meaning_file.ensures.said).leaves
 
-pub returns-in-Err-clause-rows : goal.returns-in-Err-clause-rows
-returns-in-Err-clause-rows g c = rows_from_cause _ _ (returns-in-Err-clause-cause g c)
+pub returns-in-Some-meaning_file-clause-rows : goal.returns-in-Some-meaning_file-clause-rows
+returns-in-Some-meaning_file-clause-rows g c = rows_from_cause _ _ (returns-in-Some-meaning_file-clause-cause g c)
+
+-- words that are no command
+
+pub returns-clause-cause : goal.returns-clause-cause
+returns-clause-cause g c = (usage_ends _ (sym c.in_default.ensures) (sym c.in_default-meaning_file.ensures) c.say-2.result c.say-2.ensures.said).cause
+
+pub returns-clause-leaves : goal.returns-clause-leaves
+returns-clause-leaves g c = (usage_ends _ (sym c.in_default.ensures) (sym c.in_default-meaning_file.ensures) c.say-2.result c.say-2.ensures.said).leaves
+
+pub returns-clause-rows : goal.returns-clause-rows
+returns-clause-rows g c = rows_from_cause _ _ (returns-clause-cause g c)
