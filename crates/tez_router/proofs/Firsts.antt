@@ -1,8 +1,10 @@
 -- The first of lists that are put together, where those before have nothing.
-use Rattle.std.proofs.Common.{◌≡◌, ℕ, zero, suc, ◌+◌, ◌-◌, ◌<◌, Bool, true, false, not, cond, List, [], ◌∷◌, ◌++◌, length, take, drop, get_or, refl, sym, ap, ◌∙◌, arith, add-zero, append_assoc, flat_map, filter, ltb-true}
+use Rattle.std.proofs.Common.{◌≡◌, ℕ, zero, suc, ◌+◌, ◌-◌, ◌<◌, ◌≤◌, Bool, true, false, not, cond, List, [], ◌∷◌, ◌++◌, length, take, drop, get_or, refl, sym, ap, ◌∙◌, arith, add-zero, append_assoc, flat_map, filter, ltb-true}
 use Rattle.std.specs.Prelude.{slice_get, Option, Some, None, is_some, nat_lt, unwrap_or}
 use Rattle.std.specs.List.{range_with_len, position, position_or_len}
 use Rattle.std.proofs.lemmas.Bool.{ltb-false}
+use Rattle.std.specs.Option.{option_map}
+use Rattle.tez_runs.specs.Flags.{missing_from}
 use Rattle.std.proofs.lemmas.List.{take_more}
 use Rattle.tez_lists.proofs.Flat.{flat-append, append-nil}
 use Rattle.std.proofs.Common.{◌&&◌}
@@ -66,17 +68,64 @@ below_prefix (true ∷ xs) zero low h = refl
 below_prefix (true ∷ xs) (suc j) low h = below_prefix xs j (omega arith) (omega arith)
 below_prefix (false ∷ xs) j low h = absurd (omega arith)
 
-pub set_below_first : (xs : List Bool) (i j : ℕ) → Some i ≡ position not xs → j < i → slice_get xs j ≡ Some true
+set_below_first : (xs : List Bool) (i j : ℕ) → Some i ≡ position not xs → j < i → slice_get xs j ≡ Some true
 set_below_first xs i j is h = by (nat_lt (position_or_len not xs) (length xs)) refl is where
   by : (b : Bool) → nat_lt (position_or_len not xs) (length xs) ≡ b → Some i ≡ cond b (Some (position_or_len not xs)) None → slice_get xs j ≡ Some true
   by true e k = let same : i ≡ position_or_len not xs = cc in let inside = ltb-true (position_or_len not xs) (length xs) e in below_prefix xs j (omega arith) (omega arith)
   by false e k = cc
 
-pub set_everywhere : (xs : List Bool) (j : ℕ) → None ≡ position not xs → j < length xs → slice_get xs j ≡ Some true
+set_everywhere : (xs : List Bool) (j : ℕ) → None ≡ position not xs → j < length xs → slice_get xs j ≡ Some true
 set_everywhere xs j is h = by (nat_lt (position_or_len not xs) (length xs)) refl is where
   by : (b : Bool) → nat_lt (position_or_len not xs) (length xs) ≡ b → None ≡ cond b (Some (position_or_len not xs)) None → slice_get xs j ≡ Some true
   by true e k = cc
   by false e k = let past = ltb-false (position_or_len not xs) (length xs) e in below_prefix xs j (omega arith) h
+
+inside_first : (xs : List Bool) (k : ℕ) → Some k ≡ position not xs → k < length xs
+inside_first xs k is = by (nat_lt (position_or_len not xs) (length xs)) refl is where
+  by : (b : Bool) → nat_lt (position_or_len not xs) (length xs) ≡ b → Some k ≡ cond b (Some (position_or_len not xs)) None → k < length xs
+  by true e h = let same : k ≡ position_or_len not xs = cc in let inside = ltb-true (position_or_len not xs) (length xs) e in omega arith
+  by false e h = cc
+
+get_drop : (xs : List Bool) (i k j : ℕ) → j ≡ i + k → slice_get (drop i xs) k ≡ slice_get xs j
+get_drop xs zero k j e = let same : k ≡ j = omega arith in ap (λ n. slice_get xs n) same
+get_drop [] (suc i) k j e = refl
+get_drop (x ∷ xs) (suc i) k zero e = absurd (omega arith)
+get_drop (x ∷ xs) (suc i) k (suc j) e = get_drop xs i k j (omega arith)
+
+drop_inside : (xs : List Bool) (i k : ℕ) → k < length (drop i xs) → i + k < length xs
+drop_inside xs zero k h = omega arith
+drop_inside [] (suc i) k h = absurd (omega arith)
+drop_inside (x ∷ xs) (suc i) k h = let rest = drop_inside xs i k h in omega arith
+
+inside_drop : (xs : List Bool) (i k : ℕ) → i + k < length xs → k < length (drop i xs)
+inside_drop xs zero k h = omega arith
+inside_drop [] (suc i) k h = absurd (omega arith)
+inside_drop (x ∷ xs) (suc i) k h = inside_drop xs i k (omega arith)
+
+-- the first from a number on that is not set: those between are
+pub record IsFirstFrom (xs : List Bool) (from i : ℕ) : Type 0 where
+  pub low : from ≤ i
+  pub inside : i < length xs
+  pub set_between : (j : ℕ) → from ≤ j → j < i → slice_get xs j ≡ Some true
+
+pub first_from : (xs : List Bool) (from i : ℕ) → Some i ≡ missing_from xs from → IsFirstFrom xs from i
+first_from xs from i is = by (position not (drop from xs)) refl is where
+  by : (o : Option ℕ) → position not (drop from xs) ≡ o → Some i ≡ option_map (λ k. from + k) o → IsFirstFrom xs from i
+  by None e h = cc
+  by (Some k) e h =
+      let same : i ≡ from + k = cc in
+      let inside : from + k < length xs = drop_inside xs from k (inside_first (drop from xs) k (sym e)) in
+      record {
+        low = omega arith;
+        inside = omega arith;
+        set_between = λ j low high. sym (get_drop xs from (j - from) j (omega arith)) ∙ set_below_first (drop from xs) k (j - from) (sym e) (omega arith);
+      }
+
+pub set_from : (xs : List Bool) (from : ℕ) → None ≡ missing_from xs from → (j : ℕ) → from ≤ j → j < length xs → slice_get xs j ≡ Some true
+set_from xs from is j low high = by (position not (drop from xs)) refl is where
+  by : (o : Option ℕ) → position not (drop from xs) ≡ o → None ≡ option_map (λ k. from + k) o → slice_get xs j ≡ Some true
+  by None e h = sym (get_drop xs from (j - from) j (omega arith)) ∙ set_everywhere (drop from xs) (j - from) (sym e) (inside_drop xs from (j - from) (omega arith))
+  by (Some k) e h = cc
 
 pub set_no_fetch : (rows : List (List (Option AttemptId))) (l : LinkState) (a : AttemptId) (y : EdgeInputs) (j : ℕ) → slice_get y.fetched j ≡ Some true → input_fetch rows l a y j ≡ []
 set_no_fetch rows l a y j h = ap (λ b. if not b && is_some (option_and_then (λ t. winner_at rows t.vertex.0 t.index) (source_task l a.task.index j)) then record { attempt = a; edge = edge y.edge; input = j } ∷ [] else []) (ap (λ o. unwrap_or o false) h)

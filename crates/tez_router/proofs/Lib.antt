@@ -1,4 +1,7 @@
 mod Ordered
+mod Edges
+mod Into
+mod Between
 mod Ranges
 mod Spans
 mod Firsts

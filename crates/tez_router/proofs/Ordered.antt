@@ -2,8 +2,8 @@
 use Rattle.std.proofs.Common.{◌≡◌, ◌≢◌, ◌⊎◌, inl, inr, ℕ, zero, suc, ◌<◌, ◌≤◌, ◌&&◌, ◌||◌, Bool, true, false, not, cond, List, [], ◌∷◌, length, map, set, get_or, refl, sym, ap, ◌∙◌, subst, arith, filter, sum_by, zero-add}
 use Rattle.std.specs.Prelude.{if◌then◌else◌}
 use Rattle.std.specs.List.{list_any, insert, remove, AllByRecursion}
-use Rattle.std.specs.List.Sorted.{IsPartitionedBy}
-use Rattle.std.proofs.lemmas.Bool.{cases_order}
+use Rattle.std.specs.List.Sorted.{IsPartitionedBy, IsNonDecreasingBy}
+use Rattle.std.proofs.lemmas.Bool.{cases_order, cases_lt}
 use Rattle.std.proofs.lemmas.List.{get_or_default}
 use Rattle.std.proofs.lemmas.Bool.Decides.{nat_tests}
 use Rattle.tez_lists.proofs.Cases.{cases, both}
@@ -12,7 +12,7 @@ use Rattle.tez_ids.specs.declared.AttemptId.{AttemptId}
 use Rattle.tez_ids.specs.Same.{same_task, same_attempt}
 use Rattle.tez_router.specs.State.{AdmittedState}
 use Rattle.tez_router.specs.Table.{before, admit_in, fetch_over, fetch_by, missing_of}
-use Rattle.tez_router.specs.Order.{AreInOrder, IsPlaceOf, IsOnly, IsNowhere}
+use Rattle.tez_router.specs.Order.{AreInOrder, IsPlaceOf, IsEndOf, IsOnly, IsNowhere}
 
 -- ---- the order of tasks
 
@@ -55,7 +55,7 @@ parted t (x ∷ xs) order zero (suc j) d le b k = cases (before x.attempt.task t
 parted t (x ∷ xs) order (suc i) zero d le b k = absurd (omega arith)
 parted t (x ∷ xs) order (suc i) (suc j) d le b k = parted t xs order.1 i j d (omega arith) (omega arith) k
 
-order_at : (xs : List AdmittedState) (i k : ℕ) (d : AdmittedState) → AreInOrder xs → i < k → k < length xs → before (get_or xs i d).attempt.task (get_or xs k d).attempt.task ≡ true
+pub order_at : (xs : List AdmittedState) (i k : ℕ) (d : AdmittedState) → AreInOrder xs → i < k → k < length xs → before (get_or xs i d).attempt.task (get_or xs k d).attempt.task ≡ true
 order_at [] i k d order h b = absurd (omega arith)
 order_at (x ∷ xs) i zero d order h b = absurd (omega arith)
 order_at (x ∷ xs) zero (suc k) d order h b = at_index xs k d order.0 (omega arith) where
@@ -65,7 +65,7 @@ order_at (x ∷ xs) zero (suc k) d order h b = at_index xs k d order.0 (omega ar
   at_index (y ∷ ys) (suc k) d all h = at_index ys k d all.1 (omega arith)
 order_at (x ∷ xs) (suc i) (suc k) d order h b = order_at xs i k d order.1 (omega arith) (omega arith)
 
-by_index : {X : Type 0} (P : X → Type 0) (xs : List X) → ((k : ℕ) (d : X) → k < length xs → P (get_or xs k d)) → AllByRecursion P xs
+pub by_index : {X : Type 0} (P : X → Type 0) (xs : List X) → ((k : ℕ) (d : X) → k < length xs → P (get_or xs k d)) → AllByRecursion P xs
 by_index P [] h = tt
 by_index P (x ∷ xs) h = (h 0 x (omega arith), by_index P xs (λ k d b. h (suc k) d (omega arith)))
 
@@ -127,7 +127,7 @@ put_new x (y ∷ ys) (suc at) place inside other =
     ap (λ zs. y ∷ zs) (put_new x ys at (rest_place y ys x.attempt.task at place) (omega arith) (λ d h. other d (omega arith)))
     ∙ sym (ap (λ b. if b then y ∷ admit_in x ys else (if same_task y.attempt.task x.attempt.task then x ∷ ys else x ∷ y ∷ ys)) first)
 
-all_put : (P : AdmittedState → Type 0) (x : AdmittedState) (xs : List AdmittedState) → P x → AllByRecursion P xs → AllByRecursion P (admit_in x xs)
+pub all_put : (P : AdmittedState → Type 0) (x : AdmittedState) (xs : List AdmittedState) → P x → AllByRecursion P xs → AllByRecursion P (admit_in x xs)
 all_put P x [] p all = (p, tt)
 all_put P x (y ∷ ys) p all = by (before y.attempt.task x.attempt.task) (same_task y.attempt.task x.attempt.task) (all_put P x ys p all.1) where
   by : (b c : Bool) → AllByRecursion P (admit_in x ys) → AllByRecursion P (if b then y ∷ admit_in x ys else (if c then x ∷ ys else x ∷ y ∷ ys))
@@ -158,7 +158,7 @@ mapped_order f (x ∷ xs) same order = (all_mapped xs order.0, mapped_order f xs
   all_mapped [] all = tt
   all_mapped (y ∷ ys) all = (ap (λ a. before a.task (f y).attempt.task) (same x) ∙ ap (λ a. before x.attempt.task a.task) (same y) ∙ all.0, all_mapped ys all.1)
 
-all_filtered : (P : AdmittedState → Type 0) (q : AdmittedState → Bool) (ys : List AdmittedState) → AllByRecursion P ys → AllByRecursion P (filter q ys)
+pub all_filtered : (P : AdmittedState → Type 0) (q : AdmittedState → Bool) (ys : List AdmittedState) → AllByRecursion P ys → AllByRecursion P (filter q ys)
 all_filtered P q [] all = tt
 all_filtered P q (y ∷ ys) all = by (q y) (all_filtered P q ys all.1) where
   by : (b : Bool) → AllByRecursion P (filter q ys) → AllByRecursion P (cond b (y ∷ filter q ys) (filter q ys))
@@ -266,3 +266,29 @@ missing_at a xs at d only = sym (ap (sum_by missing_of) (only_picked a xs at d o
 
 pub missing_nowhere : (a : AttemptId) (xs : List AdmittedState) → IsNowhere xs a → 0 ≡ sum_by missing_of (filter (λ x. same_attempt x.attempt a) xs)
 missing_nowhere a xs none = sym (ap (sum_by missing_of) (nowhere_picked a xs none))
+
+-- ---- the vertices
+
+before_up_to : (s t : TaskId) → before s t ≡ true → s.vertex.0 ≤ t.vertex.0
+before_up_to s t h = grind (arith, nat_tests)
+
+pub by_vertex : (xs : List AdmittedState) → AreInOrder xs → IsNonDecreasingBy (λ x. x.attempt.task.vertex.0) xs
+by_vertex xs order i j d le h = by (cases_order i j) where
+  by : (i ≡ j) ⊎ ((i < j) ⊎ (j < i)) → (get_or xs i d).attempt.task.vertex.0 ≤ (get_or xs j d).attempt.task.vertex.0
+  by (inl e) = let same : (get_or xs i d).attempt.task.vertex.0 ≡ (get_or xs j d).attempt.task.vertex.0 = ap (λ k. (get_or xs k d).attempt.task.vertex.0) e in omega arith
+  by (inr (inl k)) = before_up_to (get_or xs i d).attempt.task (get_or xs j d).attempt.task (order_at xs i j d order k h)
+  by (inr (inr k)) = absurd (omega arith)
+
+-- those from a place to the end of its vertex
+pub of_vertex : (xs : List AdmittedState) (at end v k : ℕ) (c d : AdmittedState) → AreInOrder xs → IsEndOf xs v end → at < length xs → (get_or xs at c).attempt.task.vertex.0 ≡ v → at ≤ k → k < end → k < length xs → (get_or xs k d).attempt.task.vertex.0 ≡ v
+of_vertex xs at end v k c d order ends inside is low high long =
+    let here : (get_or xs at d).attempt.task.vertex.0 ≡ (get_or xs at c).attempt.task.vertex.0 = ap (λ (x : AdmittedState). x.attempt.task.vertex.0) (get_or_default xs at d c inside) in
+    let more = by_vertex xs order at k d low long in
+    let most = ends.below k d high in
+    omega arith
+
+pub further : (xs : List AdmittedState) (at end v : ℕ) (c : AdmittedState) → IsEndOf xs v end → at < length xs → (get_or xs at c).attempt.task.vertex.0 ≡ v → at < end
+further xs at end v c ends inside is = by (cases_lt at end) where
+  by : (at < end) ⊎ (end ≤ at) → at < end
+  by (inl h) = h
+  by (inr h) = let past = ends.above at c h inside in absurd (omega arith)

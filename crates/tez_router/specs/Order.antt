@@ -1,6 +1,7 @@
 -- The order of admitted attempts, and where one stands.
 --     AreInOrder xs        each is at a task before those of all that follow
 --     IsPlaceOf xs t at    those below this place are at tasks before t, the others are not
+--     IsEndOf xs v at      those below this place are at vertices up to v, the others are not
 --     IsOnly xs a at       the attempt stands at this place, and at no other
 --     IsNowhere xs a       it is not among them
 use Rattle.std.specs.Prelude.{◌≡◌, ◌≢◌, ℕ, ◌<◌, ◌≤◌, true, false, ⊤, List, [], ◌∷◌, length, slice_index_or}
@@ -18,6 +19,10 @@ AreInOrder (x ∷ xs) = AllByRecursion (λ y. before x.attempt.task y.attempt.ta
 pub record IsPlaceOf (xs : List AdmittedState) (t : TaskId) (at : ℕ) : Type 0 where
   pub below : (k : ℕ) (d : AdmittedState) → k < at → before (slice_index_or xs k d).attempt.task t ≡ true
   pub above : (k : ℕ) (d : AdmittedState) → at ≤ k → k < length xs → before (slice_index_or xs k d).attempt.task t ≡ false
+
+pub record IsEndOf (xs : List AdmittedState) (v at : ℕ) : Type 0 where
+  pub below : (k : ℕ) (d : AdmittedState) → k < at → (slice_index_or xs k d).attempt.task.vertex.0 ≤ v
+  pub above : (k : ℕ) (d : AdmittedState) → at ≤ k → k < length xs → v < (slice_index_or xs k d).attempt.task.vertex.0
 
 -- the attempt stands at this place, or not; so does one of the task, or not
 abbrev pub IsAt : List AdmittedState → AttemptId → ℕ → Type 0

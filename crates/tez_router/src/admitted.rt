@@ -1,6 +1,8 @@
-ghost use Rattle.std.specs.Prelude.{◌≡◌, ◌++◌, ◌≤◌, ◌==◌, ◌^◌, ◌<◌, ◌*◌, false, not, map, length, replicate, OnOk, IfOk, IfNone, IfSome, IsTrue};
+ghost use Rattle.std.specs.Prelude.{◌≡◌, ◌++◌, ◌∷◌, [], ◌≤◌, ◌==◌, ◌^◌, ◌<◌, ◌*◌, true, false, not, map, length, replicate, OnOk, IfOk, IfNone, IfSome, IsTrue, nat_lt};
 ghost use Rattle.std.specs.List.{flat_map, list_any, count_by, sum_by, list_all};
 ghost use Rattle.tez_router.specs.State.{routing_of};
+ghost use Rattle.tez_router.specs.Edges.{AreNumberedFrom, AreByEdge, IsEdgePlace, IsEdgeAt, IsNotEdgeAt, IsOneAt, IsNone};
+ghost use Rattle.tez_router.specs.Between.{over};
 ghost use Rattle.tez_router.specs.Table.{inputs_in, blank_over, blank, fetch_over, has_over, missing_of, restart_over, restart_by, can_restart, can_restart_by};
 
 use crate::link::{Link, inputs_of};
@@ -46,10 +48,10 @@ impl Inputs {
         }
     }
 
-    fn has(&self, edge: EdgeId, input: u32) -> bool
-        ensures { result ≡ has_over edge.0 input self.now }
+    fn comes_before(&self, edge: EdgeId) -> bool
+        ensures { result ≡ nat_lt self.now.edge edge.0 }
     {
-        self.edge == edge && self.fetched.is_set(input)
+        self.edge.0 < edge.0
     }
 
     fn can_restart(&self, edge: EdgeId, inputs: u32) -> bool
@@ -76,14 +78,14 @@ pub struct Admitted {
 }
 
 impl Model for Admitted {
-    ghost use Rattle.std.specs.Prelude.{length, ◌≤◌};
     ghost use Rattle.tez_router.specs.State.{AdmittedState};
+    ghost use Rattle.tez_router.specs.Edges.{AreInputs};
 
     ghost Value = { AdmittedState };
 
     ghost view = { λ r. record { attempt = r.attempt; edges = r.edges.items } };
 
-    ghost invariant = { λ r. length r.edges.items ≤ 256 };
+    ghost invariant = { λ r. AreInputs r.edges.items };
 }
 
 // Adds the attempt's inputs over the edge, if it leads to the attempt's vertex.
@@ -126,11 +128,33 @@ fn missing_over(edges: &[Inputs]) -> u64
     total
 }
 
-fn fetch_each(edges: &mut [Inputs], edge: EdgeId, input: u32)
-    ensures { edges.new ≡ map (fetch_over edge.0 input) edges.old }
+// How many of the inputs are over edges before this one. Logarithmic.
+fn edge_place(edges: &[Inputs], edge: EdgeId) -> usize
+    requires { AreByEdge edges.now }
+    ensures inside { result ≤ length edges.now }
+    ensures place { IsEdgePlace edges.now edge.0 result }
 {
-    for inputs in edges.iter_mut() {
-        inputs.fetch(edge, input);
+    edges.partition_point(|inputs| inputs.comes_before(edge))
+}
+
+fn is_edge_at(edges: &[Inputs], at: usize, edge: EdgeId) -> bool
+    ensures yes { result ≡ true → IsEdgeAt edges.now edge.0 at }
+    ensures no { result ≡ false → IsNotEdgeAt edges.now edge.0 at }
+{
+    at < edges.len() && edges[at].edge() == edge
+}
+
+// Where the inputs over the edge stand. Logarithmic.
+fn find_edge(edges: &[Inputs], edge: EdgeId) -> Option<usize>
+    requires { AreByEdge edges.now }
+    ensures some { IfSome result (λ at. IsOneAt (λ y. y.edge == edge.0) edges.now at) }
+    ensures none { IfNone result (IsNone (λ y. y.edge == edge.0) edges.now) }
+{
+    let at = edge_place(edges, edge);
+    if is_edge_at(edges, at, edge) {
+        Some(at)
+    } else {
+        None
     }
 }
 
@@ -147,7 +171,8 @@ impl Admitted {
     /// The attempt with all its inputs, none of them fetched. Takes the room that fetching them
     /// needs.
     pub fn new(alloc: Global, links: &[Link], attempt: AttemptId) -> Result<Self, AllocError>
-        requires { length links.now ≤ 256 }
+        requires few { length links.now ≤ 256 }
+        requires numbered { AreNumberedFrom 0 links.now }
         ensures { IfOk result (λ x. x ≡ blank links.now attempt) }
     {
         Ok(Admitted {
@@ -171,13 +196,29 @@ impl Admitted {
     pub fn fetch(&mut self, edge: EdgeId, input: u32)
         ensures { self.new ≡ record self.old { edges = map (fetch_over edge.0 input) self.old.edges } }
     {
-        fetch_each(self.edges.as_mut_slice(), edge, input);
+        if let Some(at) = find_edge(self.edges.as_slice(), edge) {
+            self.edges[at].fetch(edge, input);
+        }
     }
 
     pub fn has(&self, edge: EdgeId, input: u32) -> bool
         ensures { result ≡ list_any (has_over edge.0 input) self.now.edges }
     {
-        self.edges.iter().any(|inputs| inputs.has(edge, input))
+        match find_edge(self.edges.as_slice(), edge) {
+            Some(at) => self.edges[at].fetched().is_set(input),
+            None => false,
+        }
+    }
+
+    /// The inputs over an edge. Logarithmic.
+    pub fn over(&self, edge: EdgeId) -> Option<&Inputs>
+        ensures some { IfSome result (λ y. over edge.0 self.now.edges ≡ y.now ∷ []) }
+        ensures none { IfNone result (over edge.0 self.now.edges ≡ []) }
+    {
+        match find_edge(self.edges.as_slice(), edge) {
+            Some(at) => Some(&self.edges[at]),
+            None => None,
+        }
     }
 
     pub fn missing(&self) -> u64

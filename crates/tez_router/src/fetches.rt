@@ -33,11 +33,13 @@ fn first_over(rows: &[Row], link: &Link, attempt: AttemptId, inputs: &Inputs) ->
     ensures { result ≡ slice_get (fetches_over rows.now (Some link.now) attempt inputs.now) 0 }
 {
     let fetched = inputs.fetched();
-    let first = match fetched.first_missing() {
-        Some(first) => first,
-        None => return None,
-    };
-    for input in first..fetched.len() {
+    let end = fetched.len();
+    let mut from = 0;
+    while from < end {
+        let input = match fetched.missing_from(from) {
+            Some(input) => input,
+            None => return None,
+        };
         if can_fetch(rows, link, attempt.task.index, fetched, input) {
             return Some(Fetch {
                 attempt,
@@ -45,6 +47,7 @@ fn first_over(rows: &[Row], link: &Link, attempt: AttemptId, inputs: &Inputs) ->
                 input,
             });
         }
+        from = input + 1;
     }
     None
 }

@@ -1,4 +1,4 @@
-ghost use Rattle.std.specs.Prelude.{◌≡◌, ◌==◌};
+ghost use Rattle.std.specs.Prelude.{◌≡◌, ◌==◌, ◌&&◌};
 ghost use Rattle.tez_router.specs.State.{routing_of};
 ghost use Rattle.tez_router.specs.Span.{IsSpan, IsSpanOf};
 ghost use Rattle.tez_router.specs.Table.{inputs_in, source_task};
@@ -46,6 +46,12 @@ impl Link {
         ensures { result ≡ (self.now.target == v.0) }
     {
         self.to == v
+    }
+
+    pub fn is_between(&self, from: VertexId, to: VertexId) -> bool
+        ensures { result ≡ (self.now.source == from.0 && (self.now.target == to.0)) }
+    {
+        self.from == from && self.to == to
     }
 
     /// None where there is no such task.

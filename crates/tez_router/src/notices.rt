@@ -1,13 +1,17 @@
 // The notices of a loss, attempt by attempt.
 ghost use Rattle.std.specs.Prelude.{◌≡◌, ◌++◌, ◌∷◌, [], not, slice_get, IfSome, IfNone, Some, None, length, OnOk, IfOk};
-ghost use Rattle.std.specs.List.{flat_map, range_with_len, filter};
+ghost use Rattle.std.specs.List.{flat_map, range_with_len, filter, AllByRecursion};
+ghost use Rattle.tez_router.specs.Edges.{AreNumberedFrom, AreInto};
+ghost use Rattle.tez_router.specs.Between.{edge_between, edges_between, over, notices_by};
+ghost use Rattle.tez_router.specs.Order.{AreInOrder};
 ghost use Rattle.tez_router.specs.Table.{waits_for, input_notice, notices_over, edge_notices, attempt_notices, is_among};
 
 use crate::admitted::{Admitted, Inputs};
 use crate::link::Link;
 use crate::notice::Notice;
+use crate::order::end_of;
 use std::alloc::{AllocError, Global};
-use tez_ids::{AttemptId, TaskId};
+use tez_ids::{AttemptId, EdgeId, TaskId, VertexId};
 use tez_runs::Runs;
 
 /// A task that has lost its winner.
@@ -79,31 +83,36 @@ fn add_edge(
     }
 }
 
-fn add_edges(
+// Adds the notices of an admitted attempt over an edge.
+fn add_over(
     found: &mut Vec<Notice>,
     links: &[Link],
     loss: Loss,
-    attempt: AttemptId,
-    edges: &[Inputs],
+    edge: EdgeId,
+    admitted: &Admitted,
 ) -> Result<(), AllocError>
-    ensures { OnOk result (found.new.items ≡ found.old.items ++ flat_map (edge_notices links.now loss.task loss.lost attempt) edges.now) }
+    ensures { OnOk result (found.new.items ≡ found.old.items ++ flat_map (edge_notices links.now loss.task loss.lost admitted.now.attempt) (over edge.0 admitted.now.edges)) }
 {
-    for inputs in edges {
-        add_edge(found, links, loss, attempt, inputs)?;
+    match admitted.over(edge) {
+        Some(inputs) => add_edge(found, links, loss, admitted.attempt(), inputs),
+        None => Ok(()),
     }
-    Ok(())
 }
 
-// Adds the notices of an admitted attempt, by edge and by input.
+// Adds the notices of an admitted attempt over these edges, by edge and by input.
 fn add_attempt(
     found: &mut Vec<Notice>,
     links: &[Link],
     loss: Loss,
+    edges: &[EdgeId],
     admitted: &Admitted,
 ) -> Result<(), AllocError>
-    ensures { OnOk result (found.new.items ≡ found.old.items ++ attempt_notices links.now loss.task loss.lost admitted.now) }
+    ensures { OnOk result (found.new.items ≡ found.old.items ++ notices_by links.now loss.task loss.lost edges.now admitted.now) }
 {
-    add_edges(found, links, loss, admitted.attempt(), admitted.edges())
+    for edge in edges {
+        add_over(found, links, loss, *edge, admitted)?;
+    }
+    Ok(())
 }
 
 fn is_among(ended: &[AttemptId], attempt: AttemptId) -> bool
@@ -118,17 +127,69 @@ fn add_unless(
     links: &[Link],
     loss: Loss,
     ended: &[AttemptId],
+    edges: &[EdgeId],
     admitted: &Admitted,
 ) -> Result<(), AllocError>
-    ensures { OnOk result (found.new.items ≡ found.old.items ++ flat_map (attempt_notices links.now loss.task loss.lost) (filter (λ x. not (is_among ended.now x.attempt)) (admitted.now ∷ []))) }
+    ensures { OnOk result (found.new.items ≡ found.old.items ++ flat_map (notices_by links.now loss.task loss.lost edges.now) (filter (λ x. not (is_among ended.now x.attempt)) (admitted.now ∷ []))) }
 {
     if is_among(ended, admitted.attempt()) {
         return Ok(());
     }
-    add_attempt(found, links, loss, admitted)
+    add_attempt(found, links, loss, edges, admitted)
 }
 
-/// The notices of a loss, by attempt, edge and input, but for those attempts that have ended.
+// Adds the notices of these attempts over these edges. Where there are no edges it does nothing.
+fn add_all(
+    found: &mut Vec<Notice>,
+    links: &[Link],
+    loss: Loss,
+    ended: &[AttemptId],
+    edges: &[EdgeId],
+    admitted: &[Admitted],
+) -> Result<(), AllocError>
+    ensures { OnOk result (found.new.items ≡ found.old.items ++ flat_map (notices_by links.now loss.task loss.lost edges.now) (filter (λ x. not (is_among ended.now x.attempt)) admitted.now)) }
+{
+    if edges.is_empty() {
+        return Ok(());
+    }
+    for x in admitted {
+        add_unless(found, links, loss, ended, edges, x)?;
+    }
+    Ok(())
+}
+
+fn add_between(
+    edges: &mut Vec<EdgeId>,
+    link: &Link,
+    from: VertexId,
+    to: VertexId,
+) -> Result<(), AllocError>
+    ensures { OnOk result (edges.new.items ≡ edges.old.items ++ edge_between from.0 to.0 link.now) }
+{
+    if link.is_between(from, to) {
+        edges.push(link.edge())?;
+    }
+    Ok(())
+}
+
+fn edges_between(
+    alloc: Global,
+    links: &[Link],
+    from: VertexId,
+    to: VertexId,
+) -> Result<Vec<EdgeId>, AllocError>
+    ensures { IfOk result (λ edges. edges.items ≡ edges_between links.now from.0 to.0) }
+{
+    let mut edges = Vec::new(alloc);
+    for link in links {
+        add_between(&mut edges, link, from, to)?;
+    }
+    Ok(edges)
+}
+
+/// The notices of a loss, by attempt, edge and input, but for those attempts that have ended. Goes
+/// from vertex to vertex, and over the attempts of those alone that read the lost task's vertex, and
+/// of these over the edges from it alone.
 pub fn notices_of(
     alloc: Global,
     links: &[Link],
@@ -136,11 +197,26 @@ pub fn notices_of(
     loss: Loss,
     ended: &[AttemptId],
 ) -> Result<Vec<Notice>, AllocError>
+    requires numbered { AreNumberedFrom 0 links.now }
+    requires ordered { AreInOrder admitted.now }
+    requires into { AllByRecursion (AreInto links.now) admitted.now }
     ensures { IfOk result (λ found. found.items ≡ flat_map (attempt_notices links.now loss.task loss.lost) (filter (λ x. not (is_among ended.now x.attempt)) admitted.now)) }
 {
     let mut found = Vec::new(alloc);
-    for x in admitted {
-        add_unless(&mut found, links, loss, ended, x)?;
+    let mut at = 0;
+    while at < admitted.len() {
+        let vertex = admitted[at].attempt().task.vertex;
+        let end = end_of(admitted, vertex);
+        let edges = edges_between(alloc, links, loss.task.vertex, vertex)?;
+        add_all(
+            &mut found,
+            links,
+            loss,
+            ended,
+            edges.as_slice(),
+            &admitted[at..end],
+        )?;
+        at = end;
     }
     Ok(found)
 }

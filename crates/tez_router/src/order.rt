@@ -1,11 +1,14 @@
 // Admitted attempts in the order of their tasks.
-ghost use Rattle.std.specs.Prelude.{◌≡◌, ◌≤◌, true, false, length, IfSome, IfNone, OnOk, OnErr};
+ghost use Rattle.std.specs.Prelude.{◌≡◌, ◌≤◌, true, false, List, length, nat_le, IfSome, IfNone, OnOk, OnErr};
+ghost use Rattle.std.specs.List.{AllByRecursion};
+ghost use Rattle.tez_router.specs.State.{LinkState};
+ghost use Rattle.tez_router.specs.Edges.{AreInto};
 ghost use Rattle.tez_router.specs.Table.{before, admit_in};
-ghost use Rattle.tez_router.specs.Order.{AreInOrder, IsPlaceOf, IsOnly, IsNowhere, IsAt, IsNotAt, IsTaskAt, IsNotTaskAt};
+ghost use Rattle.tez_router.specs.Order.{AreInOrder, IsPlaceOf, IsEndOf, IsOnly, IsNowhere, IsAt, IsNotAt, IsTaskAt, IsNotTaskAt};
 
 use crate::admitted::Admitted;
 use std::alloc::AllocError;
-use tez_ids::{AttemptId, TaskId};
+use tez_ids::{AttemptId, TaskId, VertexId};
 
 fn comes_before(s: TaskId, t: TaskId) -> bool
     ensures { result ≡ before s t }
@@ -20,6 +23,21 @@ pub fn place_of(admitted: &[Admitted], task: TaskId) -> usize
     ensures place { IsPlaceOf admitted.now task result }
 {
     admitted.partition_point(|x| comes_before(x.attempt().task, task))
+}
+
+fn is_up_to(x: &Admitted, vertex: VertexId) -> bool
+    ensures { result ≡ nat_le x.now.attempt.task.vertex.0 vertex.0 }
+{
+    x.attempt().task.vertex.0 <= vertex.0
+}
+
+/// Where the attempts of the vertices behind this one begin. Logarithmic.
+pub fn end_of(admitted: &[Admitted], vertex: VertexId) -> usize
+    requires { AreInOrder admitted.now }
+    ensures inside { result ≤ length admitted.now }
+    ensures end { IsEndOf admitted.now vertex.0 result }
+{
+    admitted.partition_point(|x| is_up_to(x, vertex))
 }
 
 fn is_at(admitted: &[Admitted], at: usize, attempt: AttemptId) -> bool
@@ -56,6 +74,7 @@ pub fn put(admitted: &mut Vec<Admitted>, x: Admitted) -> Result<(), AllocError>
     ensures put { OnOk result (admitted.new.items ≡ admit_in x admitted.old.items) }
     ensures refused { OnErr result (admitted.new.items ≡ admitted.old.items) }
     ensures order { AreInOrder admitted.new.items }
+    ensures into { (links : List LinkState) → AreInto links x → AllByRecursion (AreInto links) admitted.old.items → AllByRecursion (AreInto links) admitted.new.items }
 {
     let task = x.attempt().task;
     let at = place_of(admitted.as_slice(), task);

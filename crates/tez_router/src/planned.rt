@@ -3,6 +3,7 @@ ghost use Rattle.std.specs.Prelude.{◌≡◌, ◌<◌, ◌≤◌, length, map, 
 ghost use Rattle.std.specs.List.{range_with_len};
 ghost use Rattle.tez_router.specs.State.{routing_of};
 ghost use Rattle.tez_plan.specs.Dag.{tasks_of};
+ghost use Rattle.tez_router.specs.Edges.{AreNumberedFrom};
 ghost use Rattle.tez_router.specs.Planned.{routing_by, planned_link, no_winners};
 
 use crate::link::Link;
@@ -74,6 +75,7 @@ fn edge_count(p: &Plan) -> u16
 pub fn planned_links(alloc: Global, p: &Plan) -> Result<Vec<Link>, AllocError>
     ensures links { IfOk result (λ links. links.items ≡ map (planned_link p.now) (range_with_len 0 (length p.now.edges))) }
     ensures few { IfOk result (λ links. length links.items ≤ 256) }
+    ensures numbered { IfOk result (λ links. AreNumberedFrom 0 links.items) }
 {
     let mut links = Vec::new(alloc);
     for e in 0..edge_count(p) {

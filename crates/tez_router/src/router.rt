@@ -144,7 +144,8 @@ impl Router {
         }
     }
 
-    /// The attempt has fetched the input. From whom is not kept.
+    /// The attempt has fetched the input. From whom is not kept. Finding the input is logarithmic in
+    /// the admitted attempts, the edges into its vertex and the runs of its inputs.
     pub fn fetched(&mut self, a: AttemptId, e: EdgeId, input: u32, _winner: AttemptId)
         ensures { self.new ≡ after_fetched self.old a e.0 input }
     {
@@ -153,8 +154,8 @@ impl Router {
         }
     }
 
-    /// False for an attempt that is not admitted. Logarithmic in the admitted attempts and the runs
-    /// of its inputs, linear in the edges into its vertex.
+    /// False for an attempt that is not admitted. Logarithmic in the admitted attempts, the edges
+    /// into its vertex and the runs of its inputs.
     pub fn is_fetched(&self, a: AttemptId, e: EdgeId, input: u32) -> bool
         ensures { result ≡ fetched_in self.now a e.0 input }
     {
@@ -176,15 +177,17 @@ impl Router {
 
     /// One notice for each admitted attempt and input that it has not fetched and that leads back to
     /// the task, in the order of the attempts' tasks, then of edges, then of inputs. There is none
-    /// where the task has no winner. Takes time in the admitted attempts, and in the inputs of
-    /// theirs that lead back to the task.
+    /// where the task has no winner. Takes time in the admitted attempts of the vertices that read
+    /// the task's vertex, for each of them logarithmic in its edges, and in the inputs that lead back
+    /// to the task; and in the plan's edges for each vertex with admitted attempts.
     pub fn notices(&self, alloc: Global, t: TaskId) -> Result<Vec<Notice>, AllocError>
         ensures { IfOk result (λ found. found.items ≡ notices_in self.now t) }
     {
         self.notices_except(alloc, t, &[])
     }
 
-    /// The notices that there are once these attempts are dismissed.
+    /// The notices that there are once these attempts are dismissed. Takes time in their number for
+    /// each attempt that is visited.
     pub fn notices_except(
         &self,
         alloc: Global,
@@ -207,7 +210,8 @@ impl Router {
 
     /// The first fetch that can be made: the input was not fetched, and its source task has a winner.
     /// The first is that of the least task, then of the least edge, then of the least input. Takes
-    /// time in the inputs that come before it, but for those that were fetched first and in order.
+    /// time in the attempts and edges before it, and in the inputs before it that miss and whose
+    /// source has no winner, for each logarithmic in the runs of what was fetched.
     pub fn next_fetch(&self) -> Option<Fetch>
         ensures { result ≡ slice_get (fetches_in self.now) 0 }
     {

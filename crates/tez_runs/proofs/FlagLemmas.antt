@@ -1,7 +1,7 @@
 -- The truth values of runs: each by its number, how many there are, and after a change.
-use Rattle.std.proofs.Common.{◌≡◌, ℕ, zero, suc, ◌+◌, ◌<◌, ◌≤◌, ◌==◌, ◌||◌, Bool, true, false, not, cond, List, [], ◌∷◌, length, map, replicate, refl, sym, ap, ◌∙◌, arith, add-zero, zero-add}
+use Rattle.std.proofs.Common.{◌≡◌, ℕ, zero, suc, ◌+◌, ◌<◌, ◌≤◌, ◌==◌, ◌||◌, Bool, true, false, not, cond, List, [], ◌∷◌, length, map, drop, replicate, ◌-◌, ◌⊎◌, inl, inr, refl, sym, ap, ◌∙◌, arith, add-zero, zero-add}
 use Rattle.std.proofs.Common.{lt-ltb}
-use Rattle.std.proofs.lemmas.Bool.{le-ltb}
+use Rattle.std.proofs.lemmas.Bool.{le-ltb, cases_lt}
 use Rattle.std.specs.Prelude.{nat_lt, slice_get, slice_set, unwrap_or, Some, None, if◌then◌else◌}
 use Rattle.std.specs.List.{count_by, position, position_or_len}
 use Rattle.std.proofs.lemmas.List.Sums.{sum_by-cons}
@@ -152,3 +152,46 @@ unfolding flags
 flags_full n xs all = found (position_or_len not (flags n xs)) (all_from (covers xs) 0 n (λ j low high. all j (omega arith))) where
   found : (p : ℕ) → p ≡ n → cond (nat_lt p (length (flags n xs))) (Some p) None ≡ None
   found p e = ap (λ q. cond (nat_lt q (length (flags n xs))) (Some q) None) e ∙ ap (λ m. cond (nat_lt n m) (Some n) None) (length_map (covers xs) 0 n) ∙ ap (λ b. cond b (Some n) None) (le-ltb n n (omega arith))
+
+-- ---- from a number on
+
+drop_each : {X : Type 0} (f : ℕ → X) (a n i m : ℕ) → n ≡ i + m → drop i (map f (numbers_from a n)) ≡ map f (numbers_from (a + i) m)
+drop_each f a n zero m e =
+    let same : n ≡ m = omega arith in
+    let there : a ≡ a + 0 = omega arith in
+    ap (λ k. map f (numbers_from a k)) same ∙ ap (λ b. map f (numbers_from b m)) there
+drop_each f a zero (suc i) m e = absurd (omega arith)
+drop_each f a (suc n) (suc i) m e = let same : suc a + i ≡ a + suc i = omega arith in drop_each f (suc a) n i m (omega arith) ∙ ap (λ b. map f (numbers_from b m)) same
+
+drop_past : {X : Type 0} (xs : List X) (i : ℕ) → length xs ≤ i → drop i xs ≡ []
+drop_past [] zero h = refl
+drop_past [] (suc i) h = refl
+drop_past (x ∷ xs) zero h = absurd (omega arith)
+drop_past (x ∷ xs) (suc i) h = drop_past xs i (omega arith)
+
+position_at : (bs : List Bool) (k : ℕ) → position_or_len not bs ≡ k → k < length bs → position not bs ≡ Some k
+position_at bs k e h = ap (λ q. cond (nat_lt q (length bs)) (Some q) None) e ∙ ap (λ b. cond b (Some k) None) (lt-ltb k (length bs) h)
+
+position_none : (bs : List Bool) → position_or_len not bs ≡ length bs → position not bs ≡ None
+position_none bs e = ap (λ q. cond (nat_lt q (length bs)) (Some q) None) e ∙ ap (λ b. cond b (Some (length bs)) None) (le-ltb (length bs) (length bs) (omega arith))
+
+pub flags_from : (n i k : ℕ) (xs : List Run) → i + k < n → ((j : ℕ) → i ≤ j → j < i + k → covers xs j ≡ true) → covers xs (i + k) ≡ false → position not (drop i (flags n xs)) ≡ Some k
+unfolding flags
+flags_from n i k xs h all none =
+    let rest : drop i (map (covers xs) (numbers_from 0 n)) ≡ map (covers xs) (numbers_from i (n - i)) =
+    drop_each (covers xs) 0 n i (n - i) (omega arith) ∙ ap (λ b. map (covers xs) (numbers_from b (n - i))) (zero-add i) in
+    let long : length (map (covers xs) (numbers_from i (n - i))) ≡ n - i = length_map (covers xs) i (n - i) in
+    ap (position not) rest ∙ position_at (map (covers xs) (numbers_from i (n - i))) k (first_from (covers xs) i (n - i) k (omega arith) all none) (omega arith)
+
+pub flags_full_from : (n i : ℕ) (xs : List Run) → ((j : ℕ) → i ≤ j → j < n → covers xs j ≡ true) → position not (drop i (flags n xs)) ≡ None
+unfolding flags
+flags_full_from n i xs all = by (cases_lt n i) where
+  by : (n < i) ⊎ (i ≤ n) → position not (drop i (map (covers xs) (numbers_from 0 n))) ≡ None
+  by (inl h) =
+      let long : length (map (covers xs) (numbers_from 0 n)) ≡ n = length_map (covers xs) 0 n in
+      ap (position not) (drop_past (map (covers xs) (numbers_from 0 n)) i (omega arith))
+  by (inr h) =
+      let rest : drop i (map (covers xs) (numbers_from 0 n)) ≡ map (covers xs) (numbers_from i (n - i)) =
+      drop_each (covers xs) 0 n i (n - i) (omega arith) ∙ ap (λ b. map (covers xs) (numbers_from b (n - i))) (zero-add i) in
+      ap (position not) rest
+      ∙ position_none (map (covers xs) (numbers_from i (n - i))) (all_from (covers xs) i (n - i) (λ j low high. all j low (omega arith)) ∙ sym (length_map (covers xs) i (n - i)))

@@ -349,3 +349,39 @@ zero_is_free n x [] apart h e = cc
 zero_is_free n x (y ∷ xs) apart h e =
     let same : y.start ≡ x.start = ap (λ r. r.start) (let z : y ≡ x = cc in z) in
     none_after 0 y.start n (y ∷ xs) (omega arith, apart.1, apart.2) (omega arith)
+
+-- ---- the least number from one on that is not there
+
+is_inside : (j : ℕ) (r : Run) → r.start ≤ j → j < r.end → is_in j r ≡ true
+is_inside j r low high = grind (arith, nat_tests)
+
+in_run : (j p : ℕ) (xs : List Run) (d : Run) → p < length xs → (get_or xs p d).start ≤ j → j < (get_or xs p d).end → covers xs j ≡ true
+in_run j p [] d h low high = absurd (omega arith)
+in_run j zero (x ∷ xs) d h low high = ap (λ b. b || covers xs j) (is_inside j x low high)
+in_run j (suc p) (x ∷ xs) d h low high = ap (λ b. is_in j x || b) (in_run j p xs d (omega arith) low high) ∙ or_true (is_in j x) where
+  or_true : (b : Bool) → (b || true) ≡ true
+  or_true true = refl
+  or_true false = refl
+
+end_is_free : (n p : ℕ) (xs : List Run) (d : Run) → AreApart 0 xs n → p < length xs → covers xs (get_or xs p d).end ≡ false
+end_is_free n p xs d apart h =
+    let fits = fits_at 0 n p xs d apart h in
+    let some = fits.some in
+    let next = fits.next in
+    held_before (get_or xs p d).end n p xs d apart h (omega arith) (λ e b. let there : next_start n (drop (suc p) xs) ≡ (get_or xs (suc p) e).start = next_there n (suc p) xs e b in omega arith)
+    ∙ out_at_end (get_or xs p d)
+
+-- the run before the place where a number is looked for
+pub none_held : (i n at : ℕ) (xs : List Run) → AreApart 0 xs n → StartsAfter xs at i → at ≡ 0 → covers xs i ≡ false
+none_held i n at xs apart after is = held_first i n xs nowhere apart (subst (λ m. StartsAfter xs m i) is after)
+
+pub free_at_end : (n at : ℕ) (xs : List Run) → AreApart 0 xs n → 0 < at → at ≤ length xs → covers xs (get_or xs (at - 1) nowhere).end ≡ false
+free_at_end n at xs apart some inside = end_is_free n (at - 1) xs nowhere apart (omega arith)
+
+pub held_from : (i j at : ℕ) (xs : List Run) → StartsUpTo xs at i → 0 < at → at ≤ length xs → i ≤ j → j < (get_or xs (at - 1) nowhere).end → covers xs j ≡ true
+held_from i j at xs before some inside low high = let start = before (at - 1) nowhere (omega arith) in in_run j (at - 1) xs nowhere (omega arith) (omega arith) high
+
+pub free_past_end : (i n at : ℕ) (xs : List Run) → AreApart 0 xs n → StartsUpTo xs at i → StartsAfter xs at i → 0 < at → at ≤ length xs → (get_or xs (at - 1) nowhere).end ≤ i → covers xs i ≡ false
+free_past_end i n at xs apart before after some inside past =
+    let next : at ≡ suc (at - 1) = omega arith in
+    held_before i n (at - 1) xs nowhere apart (omega arith) (before (at - 1) nowhere (omega arith)) (subst (λ m. StartsAfter xs m i) next after) ∙ out_above i (get_or xs (at - 1) nowhere) past

@@ -4,9 +4,11 @@
 --     flags n rs          of each number below n, whether it is in one of the runs
 --     AreApart m rs n     the runs are in order, none is empty, with a gap between any two; the first starts at m or later, the last ends at n or before
 --     IsAdded xs ys i     the runs ys cover what xs cover, and i
+--     missing_from xs i   the first number from i on that is not set
 --     AreKept ..          what a set of runs keeps: runs with gaps, how many numbers they cover, and room for the most runs with gaps below n
-use Rattle.std.specs.Prelude.{◌≡◌, ◌≢◌, ℕ, ◌+◌, ◌*◌, ◌-◌, ◌<◌, ◌≤◌, Bool, true, false, ◌==◌, ◌&&◌, ◌||◌, nat_lt, nat_le, List, [], ◌∷◌, map, length, slice_index_or}
-use Rattle.std.specs.List.{list_any, count_by}
+use Rattle.std.specs.Prelude.{◌≡◌, ◌≢◌, ℕ, ◌+◌, ◌*◌, ◌-◌, ◌<◌, ◌≤◌, Bool, true, false, ◌==◌, ◌&&◌, ◌||◌, not, nat_lt, nat_le, List, [], ◌∷◌, map, drop, length, slice_index_or, Option}
+use Rattle.std.specs.List.{list_any, count_by, position}
+use Rattle.std.specs.Option.{option_map}
 use Rattle.tez_lists.specs.Numbers.{numbers_from}
 use Rattle.tez_runs.specs.declared.edit.Run.{Run}
 
@@ -18,6 +20,9 @@ covers rs i = list_any (is_in i) rs
 
 unfoldable pub flags : ℕ → List Run → List Bool
 flags n rs = map (covers rs) (numbers_from 0 n)
+
+abbrev pub missing_from : List Bool → ℕ → Option ℕ
+missing_from xs i = option_map (λ k. i + k) (position not (drop i xs))
 
 abbrev pub AreApart : ℕ → List Run → ℕ → Type 0
 AreApart m [] n = m ≤ n + 1

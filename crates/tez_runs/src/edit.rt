@@ -41,6 +41,21 @@ pub fn first_free(runs: &[Run]) -> u32
     }
 }
 
+/// The least number from `i` on that is in none of the runs. Logarithmic.
+pub fn free_from(runs: &[Run], i: u32) -> u32
+    requires { IsApart runs.now }
+    ensures free { covers runs.now result ≡ false }
+    ensures low { i ≤ result }
+    ensures least { (j : ℕ) → i ≤ j → j < result → covers runs.now j ≡ true }
+{
+    let at = place(runs, i);
+    if at == 0 {
+        return i;
+    }
+    let end = runs[at - 1].end;
+    if end > i { end } else { i }
+}
+
 // Whether the run before the place ends at the number.
 fn ends_at(runs: &[Run], at: usize, i: u32) -> bool
     requires { at ≤ length runs.now }

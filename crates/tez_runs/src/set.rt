@@ -1,7 +1,8 @@
 ghost use Rattle.std.specs.Prelude.{◌≡◌, ◌≤◌, Bool, true, false, not, length, replicate, slice_get, slice_set, unwrap_or, IfOk};
 ghost use Rattle.std.specs.List.{count_by, position};
+ghost use Rattle.tez_runs.specs.Flags.{missing_from};
 
-use crate::edit::{Run, add, first_free, holds};
+use crate::edit::{Run, add, first_free, free_from, holds};
 use std::alloc::{AllocError, Global};
 use std::marker::Model;
 
@@ -72,6 +73,18 @@ impl Runs {
         ensures { result ≡ position not self.now }
     {
         let first = first_free(self.runs.as_slice());
+        if first < self.bound {
+            Some(first)
+        } else {
+            None
+        }
+    }
+
+    /// The least from `i` on that is not set. Logarithmic in the runs.
+    pub fn missing_from(&self, i: u32) -> Option<u32>
+        ensures { result ≡ missing_from self.now i }
+    {
+        let first = free_from(self.runs.as_slice(), i);
         if first < self.bound {
             Some(first)
         } else {

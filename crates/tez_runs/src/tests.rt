@@ -9,6 +9,10 @@ fn sets_in_any_order(rt: HostRuntime) {
     }
     assert_eq!(rt; (runs.len(), runs.count(), runs.missing()), (6, 4, 2));
     assert_eq!(rt; runs.first_missing(), Some(3));
+    assert_eq!(rt;
+        (runs.missing_from(4), runs.missing_from(6)),
+        (Some(5), None)
+    );
     assert!(rt; runs.is_set(2));
     assert!(rt; !runs.is_set(3));
     assert!(rt; !runs.is_set(9));

@@ -3,7 +3,9 @@ use Rattle.tez_ids.specs.Same.{same_attempt}
 use Rattle.tez_router.specs.State.{RouterState, AdmittedState}
 use Rattle.tez_router.specs.Table.{after_dismiss}
 use Rattle.tez_router.specs.Order.{AreInOrder, IsOnly, IsNowhere}
-use Rattle.tez_router.proofs.Ordered.{only_removed, nowhere_kept, filtered_order}
+use Rattle.std.specs.List.{AllByRecursion}
+use Rattle.tez_router.specs.Edges.{AreInto}
+use Rattle.tez_router.proofs.Ordered.{all_filtered, only_removed, nowhere_kept, filtered_order}
 use Rattle.tez_router.proofs.router.Router.dismiss.Goals as goal
 
 pub invariant_of-self : goal.invariant_of-self
@@ -12,6 +14,9 @@ invariant_of-self c =
     let only = subst (λ ys. IsOnly ys c.args.a c.in-Some.at) c.as_slice.ensures.value c.in-Some.ensures.some in
     record {
       few = c.self.invariant.few;
+      numbered = c.self.invariant.numbered;
+      into = subst (AllByRecursion (AreInto c.self.inside.links.items)) (sym (c.remove.ensures.items ∙ only_removed c.args.a xs c.in-Some.at only))
+          (all_filtered (AreInto c.self.inside.links.items) (λ x. not (same_attempt x.attempt c.args.a)) xs c.self.invariant.into);
       ordered = subst AreInOrder (sym (c.remove.ensures.items ∙ only_removed c.args.a xs c.in-Some.at only)) (filtered_order (λ x. not (same_attempt x.attempt c.args.a)) xs c.self.invariant.ordered);
     }
 

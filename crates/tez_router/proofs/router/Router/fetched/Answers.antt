@@ -2,6 +2,9 @@ use Rattle.std.proofs.Common.{◌∙◌, List, sym, ap, subst}
 use Rattle.tez_router.specs.State.{RouterState, AdmittedState}
 use Rattle.tez_router.specs.Table.{after_fetched}
 use Rattle.tez_router.specs.Order.{AreInOrder, IsOnly, IsNowhere}
+use Rattle.std.specs.List.{AllByRecursion}
+use Rattle.tez_router.specs.Edges.{AreInto}
+use Rattle.tez_router.proofs.Into.{fetched_into}
 use Rattle.tez_router.proofs.Ordered.{fetched_at, fetched_nowhere, fetched_order}
 use Rattle.tez_router.proofs.router.Router.fetched.Goals as goal
 
@@ -12,6 +15,8 @@ invariant_of-self c =
     let is = fetched_at c.args.a c.args.e.0 c.args.input xs c.in-Some.at c.index_mut.result.now c.fetch.new.self only c.index_mut.ensures.value c.fetch.ensures in
     record {
       few = c.self.invariant.few;
+      numbered = c.self.invariant.numbered;
+      into = subst (AllByRecursion (AreInto c.self.inside.links.items)) (sym is) (fetched_into c.self.inside.links.items c.args.a c.args.e.0 c.args.input xs c.self.invariant.into);
       ordered = subst AreInOrder (sym is) (fetched_order c.args.a c.args.e.0 c.args.input xs c.self.invariant.ordered);
     }
 

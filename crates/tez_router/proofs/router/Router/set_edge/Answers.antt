@@ -4,7 +4,11 @@ use Rattle.tez_lists.proofs.Tables.{whole}
 use Rattle.tez_router.specs.State.{AdmittedState, LinkState, routing_of}
 use Rattle.tez_router.specs.Table.{restart_by, with_routing}
 use Rattle.tez_router.specs.Order.{AreInOrder}
+use Rattle.std.specs.List.{AllByRecursion}
+use Rattle.tez_router.specs.Edges.{AreNumberedFrom, AreInto}
+use Rattle.tez_router.proofs.Into.{restarted_into}
 use Rattle.tez_router.proofs.Ordered.{mapped_order}
+use Rattle.tez_router.proofs.Edges.{routed_numbered}
 use Rattle.tez_router.proofs.Ranges.{length-with_routing}
 use Rattle.tez_router.proofs.router.Router.set_edge.Goals as goal
 
@@ -27,5 +31,8 @@ invariant_of-self c =
     let all_admitted : take c.self.inside.admitted.len (c.restart_all.new.admitted ++ drop (length c.restart_all.new.admitted) xs) ≡ c.restart_all.new.admitted = whole c.self.inside.admitted.len c.restart_all.new.admitted xs (omega arith) in
     record {
       few = subst (λ (ys : List LinkState). length ys ≤ 256) (sym all_links) (omega arith);
+      numbered = subst (AreNumberedFrom 0) (sym (all_links ∙ links_now)) (routed_numbered 0 ls e r c.self.invariant.numbered);
       ordered = subst AreInOrder (sym (all_admitted ∙ admitted_now)) (mapped_order (restart_by e r) xs (λ x. refl) c.self.invariant.ordered);
+      into = subst (λ (zs : List LinkState). AllByRecursion (AreInto zs) (take c.self.inside.admitted.len (c.restart_all.new.admitted ++ drop (length c.restart_all.new.admitted) xs))) (sym (all_links ∙ links_now))
+          (subst (AllByRecursion (AreInto (with_routing ls e r))) (sym (all_admitted ∙ admitted_now)) (restarted_into ls e r xs c.self.invariant.into));
     }
