@@ -1,0 +1,13 @@
+pub mod Same
+pub mod OneLive
+pub mod Tasks
+pub mod Ranges
+pub mod Places
+pub mod Joined
+pub mod Obeying
+pub mod StepLaw
+pub mod Withdrawals
+pub mod Going
+pub mod RunLaw
+pub mod Queues
+pub mod Feeding

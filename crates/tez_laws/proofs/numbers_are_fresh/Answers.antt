@@ -1,0 +1,8 @@
+use Rattle.tez_laws.proofs.Places.{fresh, queued_fetched}
+use Rattle.tez_laws.proofs.numbers_are_fresh.Goals as goal
+
+pub returns : goal.returns
+returns c = record {
+  fresh = fresh;
+  fetched = queued_fetched;
+}

@@ -1,0 +1,8 @@
+use Rattle.tez_laws.proofs.Withdrawals.{event_owes, done_owes}
+use Rattle.tez_laws.proofs.withdrawals_are_whole.Goals as goal
+
+pub returns : goal.returns
+returns c = record {
+  event = event_owes;
+  report = done_owes;
+}
