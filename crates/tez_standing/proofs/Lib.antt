@@ -1,0 +1,6 @@
+mod TableLemmas
+mod RecordLemmas
+mod StepLemmas
+mod RuleLemmas
+mod ListLemmas
+mod ReadLemmas

@@ -1,0 +1,9 @@
+use Rattle.std.proofs.Common.{length, ap, arith}
+use Rattle.tez_standing.proofs.ReadLemmas.{few_edges}
+use Rattle.tez_standing.proofs.rules.edge_count.Goals as goal
+
+pub overflow_cast-result : goal.overflow_cast-result
+overflow_cast-result c =
+    let few = few_edges c.args.p.now c.vertices-valid.ensures.valid in
+    let same = ap length c.edges.ensures in
+    omega arith
