@@ -4,7 +4,8 @@
 //! from 1. A failed call takes no effect; a stopped call takes effect where there is memory for it, as
 //! when the answer is lost. A number in both lists fails. `SureFiles`, `SureStore` and `SureOut` never fail
 //! nor stop, but for a name that is not readied or an attempt that is not staged.
-//! All of them tell what they hold.
+//! All of them tell what they hold. Of the gates `OpenGate` holds nobody, and at `PairGate` two
+//! attempts meet.
 #![tactic(auto)]
 
 mod calls;
@@ -13,6 +14,7 @@ mod files;
 mod gate;
 mod named;
 mod out;
+mod pair_gate;
 mod room;
 mod staged;
 mod store;
@@ -23,6 +25,7 @@ mod sure_store;
 pub use files::MemFiles;
 pub use gate::OpenGate;
 pub use out::MemOut;
+pub use pair_gate::PairGate;
 pub use store::MemStore;
 pub use sure_files::SureFiles;
 pub use sure_out::SureOut;

@@ -1,0 +1,8 @@
+//! A dispatcher for a list of orders: it puts them one a turn, in order, and takes their reports.
+#![tactic(auto)]
+
+mod batch;
+#[cfg(test)]
+mod tests;
+
+pub use batch::Batch;
