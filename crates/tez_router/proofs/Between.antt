@@ -27,7 +27,7 @@ other_source l t c i h = by (nat_lt i (inputs_in l.routing c)) where
   by true = ap (λ b. b && (((table_for l.routing).leads c i).0 == t.index)) h
   by false = refl
 
-none_flat : {X Y : Type 0} (f : X → List Y) (xs : List X) → ((x : X) → f x ≡ []) → flat_map f xs ≡ []
+pub none_flat : {X Y : Type 0} (f : X → List Y) (xs : List X) → ((x : X) → f x ≡ []) → flat_map f xs ≡ []
 none_flat f [] h = refl
 none_flat f (x ∷ xs) h = ap (λ ys. ys ++ flat_map f xs) (h x) ∙ none_flat f xs h
 

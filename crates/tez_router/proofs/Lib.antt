@@ -5,3 +5,4 @@ mod Between
 mod Ranges
 mod Spans
 mod Firsts
+mod Readers

@@ -1,6 +1,7 @@
 ghost use Rattle.std.specs.Prelude.{◌≡◌, ◌==◌, ◌&&◌};
 ghost use Rattle.tez_router.specs.State.{routing_of};
 ghost use Rattle.tez_router.specs.Span.{IsSpan, IsSpanOf};
+ghost use Rattle.tez_router.specs.Between.{is_one_to_one};
 ghost use Rattle.tez_router.specs.Table.{inputs_in, source_task};
 
 use std::marker::Model;
@@ -52,6 +53,12 @@ impl Link {
         ensures { result ≡ (self.now.source == from.0 && (self.now.target == to.0)) }
     {
         self.from == from && self.to == to
+    }
+
+    pub fn is_one_to_one(&self) -> bool
+        ensures { result ≡ is_one_to_one self.now.routing }
+    {
+        matches!(self.manager, Manager::OneToOne(_))
     }
 
     /// None where there is no such task.

@@ -1,15 +1,15 @@
 // The notices of a loss, attempt by attempt.
 ghost use Rattle.std.specs.Prelude.{◌≡◌, ◌++◌, ◌∷◌, [], not, slice_get, IfSome, IfNone, Some, None, length, OnOk, IfOk};
-ghost use Rattle.std.specs.List.{flat_map, range_with_len, filter, AllByRecursion};
+ghost use Rattle.std.specs.List.{flat_map, range_with_len, filter, list_all, AllByRecursion};
 ghost use Rattle.tez_router.specs.Edges.{AreNumberedFrom, AreInto};
-ghost use Rattle.tez_router.specs.Between.{edge_between, edges_between, over, notices_by};
+ghost use Rattle.tez_router.specs.Between.{edge_between, edges_between, over, notices_by, is_paired, AreAt, AreReaders};
 ghost use Rattle.tez_router.specs.Order.{AreInOrder};
 ghost use Rattle.tez_router.specs.Table.{waits_for, input_notice, notices_over, edge_notices, attempt_notices, is_among};
 
 use crate::admitted::{Admitted, Inputs};
 use crate::link::Link;
 use crate::notice::Notice;
-use crate::order::end_of;
+use crate::order::{end_of, place_of};
 use std::alloc::{AllocError, Global};
 use tez_ids::{AttemptId, EdgeId, TaskId, VertexId};
 use tez_runs::Runs;
@@ -158,6 +158,68 @@ fn add_all(
     Ok(())
 }
 
+fn is_paired(links: &[Link], edge: EdgeId) -> bool
+    ensures { result ≡ is_paired links.now edge }
+{
+    match links.get(edge.0 as usize) {
+        Some(link) => link.is_one_to_one(),
+        None => false,
+    }
+}
+
+fn are_paired(links: &[Link], edges: &[EdgeId]) -> bool
+    ensures { result ≡ list_all (is_paired links.now) edges.now }
+{
+    edges.iter().all(|edge| is_paired(links, *edge))
+}
+
+// Where those of a vertex's attempts stand that read an output of the task over these edges. Where
+// the edges are one to one it is the attempt of the same index alone, which is looked up.
+fn readers(
+    links: &[Link],
+    task: TaskId,
+    edges: &[EdgeId],
+    vertex: VertexId,
+    admitted: &[Admitted],
+) -> (usize, usize)
+    requires ordered { AreInOrder admitted.now }
+    requires here { AreAt vertex.0 admitted.now }
+    ensures { AreReaders links.now task edges.now admitted.now result.0 result.1 }
+{
+    if !are_paired(links, edges) {
+        return (0, admitted.len());
+    }
+    let reader = TaskId {
+        vertex,
+        index: task.index,
+    };
+    let at = place_of(admitted, reader);
+    if at < admitted.len() {
+        (at, at + 1)
+    } else {
+        (at, at)
+    }
+}
+
+// Adds the notices of a vertex's attempts over these edges. Goes over those alone that read an output
+// of the lost task.
+fn add_readers(
+    found: &mut Vec<Notice>,
+    links: &[Link],
+    loss: Loss,
+    ended: &[AttemptId],
+    edges: &[EdgeId],
+    vertex: VertexId,
+    admitted: &[Admitted],
+) -> Result<(), AllocError>
+    requires ordered { AreInOrder admitted.now }
+    requires here { AreAt vertex.0 admitted.now }
+    ensures { OnOk result (found.new.items ≡ found.old.items ++ flat_map (notices_by links.now loss.task loss.lost edges.now) (filter (λ x. not (is_among ended.now x.attempt)) admitted.now)) }
+{
+    let (first, end) = readers(links, loss.task, edges, vertex, admitted);
+    add_all(found, links, loss, ended, edges, &admitted[first..end])
+}
+
 fn add_between(
     edges: &mut Vec<EdgeId>,
     link: &Link,
@@ -188,8 +250,8 @@ fn edges_between(
 }
 
 /// The notices of a loss, by attempt, edge and input, but for those attempts that have ended. Goes
-/// from vertex to vertex, and over the attempts of those alone that read the lost task's vertex, and
-/// of these over the edges from it alone.
+/// from vertex to vertex, and over those attempts alone that read an output of the lost task, and of
+/// these over the edges from its vertex alone.
 pub fn notices_of(
     alloc: Global,
     links: &[Link],
@@ -208,12 +270,13 @@ pub fn notices_of(
         let vertex = admitted[at].attempt().task.vertex;
         let end = end_of(admitted, vertex);
         let edges = edges_between(alloc, links, loss.task.vertex, vertex)?;
-        add_all(
+        add_readers(
             &mut found,
             links,
             loss,
             ended,
             edges.as_slice(),
+            vertex,
             &admitted[at..end],
         )?;
         at = end;

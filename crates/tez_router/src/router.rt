@@ -165,7 +165,8 @@ impl Router {
         }
     }
 
-    /// How many inputs the attempt has not fetched. 0 for an attempt that is not admitted.
+    /// How many inputs the attempt has not fetched. 0 for an attempt that is not admitted. Logarithmic
+    /// in the admitted attempts, and takes time in the edges into its vertex.
     pub fn missing(&self, a: AttemptId) -> u64
         ensures { result ≡ missing_in self.now a }
     {
@@ -177,17 +178,19 @@ impl Router {
 
     /// One notice for each admitted attempt and input that it has not fetched and that leads back to
     /// the task, in the order of the attempts' tasks, then of edges, then of inputs. There is none
-    /// where the task has no winner. Takes time in the admitted attempts of the vertices that read
-    /// the task's vertex, for each of them logarithmic in its edges, and in the inputs that lead back
-    /// to the task; and in the plan's edges for each vertex with admitted attempts.
+    /// where the task has no winner. Takes time in the admitted attempts that read the task's output,
+    /// for each of them logarithmic in its edges, and in its inputs that lead back to the task: over
+    /// scatter-gather and broadcast edges these are all admitted attempts of the vertex, over one to
+    /// one the attempt of the task's index alone, which is looked up. Besides, each vertex with
+    /// admitted attempts takes time in the plan's edges, and logarithmic in the admitted attempts.
     pub fn notices(&self, alloc: Global, t: TaskId) -> Result<Vec<Notice>, AllocError>
         ensures { IfOk result (λ found. found.items ≡ notices_in self.now t) }
     {
         self.notices_except(alloc, t, &[])
     }
 
-    /// The notices that there are once these attempts are dismissed. Takes time in their number for
-    /// each attempt that is visited.
+    /// The notices that there are once these attempts are dismissed. Takes the time of `notices`, and
+    /// time in the number of these attempts for each admitted attempt that reads the task's output.
     pub fn notices_except(
         &self,
         alloc: Global,
@@ -209,9 +212,10 @@ impl Router {
     }
 
     /// The first fetch that can be made: the input was not fetched, and its source task has a winner.
-    /// The first is that of the least task, then of the least edge, then of the least input. Takes
-    /// time in the attempts and edges before it, and in the inputs before it that miss and whose
-    /// source has no winner, for each logarithmic in the runs of what was fetched.
+    /// The first is that of the least task, then of the least edge, then of the least input. Goes over
+    /// the admitted attempts from the first one at each call: takes time in the attempts and edges
+    /// before it, and in the inputs before it that miss and whose source has no winner, for each edge
+    /// and each such input logarithmic in the runs of what was fetched.
     pub fn next_fetch(&self) -> Option<Fetch>
         ensures { result ≡ slice_get (fetches_in self.now) 0 }
     {
@@ -222,7 +226,8 @@ impl Router {
         )
     }
 
-    /// The first attempt, in the order of tasks, that has fetched all its inputs.
+    /// The first attempt, in the order of tasks, that has fetched all its inputs. Takes time in the
+    /// attempts before it and their edges.
     pub fn next_complete(&self) -> Option<AttemptId>
         ensures { result ≡ first_complete self.now.admitted }
     {
