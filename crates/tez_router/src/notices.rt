@@ -1,5 +1,5 @@
 // The notices of a loss, attempt by attempt.
-ghost use Rattle.std.specs.Prelude.{◌≡◌, ◌++◌, ◌∷◌, [], not, slice_get, IfSome, IfNone, Some, None, length, OnOk, IfOk};
+ghost use Rattle.std.specs.Prelude.{◌≡◌, ◌++◌, ◌∷◌, ◌≤◌, ◌+◌, [], not, true, slice_get, IfSome, IfNone, Some, None, length, OnOk, IfOk};
 ghost use Rattle.std.specs.List.{flat_map, range_with_len, filter, list_all, AllByRecursion};
 ghost use Rattle.tez_router.specs.Edges.{AreNumberedFrom, AreInto};
 ghost use Rattle.tez_router.specs.Between.{edge_between, edges_between, over, notices_by, is_paired, AreAt, AreReaders};
@@ -184,7 +184,8 @@ fn readers(
 ) -> (usize, usize)
     requires ordered { AreInOrder admitted.now }
     requires here { AreAt vertex.0 admitted.now }
-    ensures { AreReaders links.now task edges.now admitted.now result.0 result.1 }
+    ensures readers { AreReaders links.now task edges.now admitted.now result.0 result.1 }
+    ensures alone { list_all (is_paired links.now) edges.now ≡ true → result.1 ≤ result.0 + 1 }
 {
     if !are_paired(links, edges) {
         return (0, admitted.len());
