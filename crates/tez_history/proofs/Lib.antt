@@ -1,2 +1,3 @@
 mod Driving
 mod Rows
+mod Mutated

@@ -16,7 +16,7 @@ use Rattle.tez_vman.specs.declared.seen.Seen.{Seen}
 use Rattle.tez_vman.specs.declared.seen.Config.{Config}
 use Rattle.tez_vman.specs.Rules.{configures as configures_by, schedules, config as shape}
 use Rattle.tez_events.specs.declared.Entry.{Entry}
-use Rattle.tez_events.specs.declared.Entry.TheVariants.{Opened, Over, InputFailed}
+use Rattle.tez_events.specs.declared.Entry.TheVariants.{Opened, Over, Stands, Carried, Kept, Configured, Queued, Placed, Fetched, ReadError, InputFailed, Ordered, Succeeded, Made, Failed, Killed, NodeLost, OutputLost, Rerun, Stopped, Ready, Published, CommitStarted, Finished, Purged}
 use Rattle.tez_history.specs.Shape.{Edge, numbers_below, vertices, edges_to, primary_edges, has_edge_out, rule, places}
 use Rattle.tez_history.specs.History.{Past, Stage, Unknown, InQueue, Waits, Runs, Ended, Lie, Nowhere, On, InQuestion, config, live, stage, winner, epoch, attempts, made_bytes, is_fetched, is_scheduled, holder, lie}
 
@@ -177,7 +177,29 @@ to_schedule g c v past = if is_configured v past then schedules (rule g c v) (se
 abbrev pub starts_epoch : Entry → Bool
 starts_epoch (Opened _) = true
 starts_epoch Over = true
-starts_epoch _ = false
+starts_epoch (Stands v tasks base) = false
+starts_epoch (Carried t n) = false
+starts_epoch (Kept a) = false
+starts_epoch (Configured v tasks base) = false
+starts_epoch (Queued a) = false
+starts_epoch (Placed a k p) = false
+starts_epoch (Fetched a e i w) = false
+starts_epoch (ReadError a e i w) = false
+starts_epoch (InputFailed a e i w) = false
+starts_epoch (Ordered a) = false
+starts_epoch (Succeeded a) = false
+starts_epoch (Made a e n) = false
+starts_epoch (Failed a) = false
+starts_epoch (Killed a cause) = false
+starts_epoch (NodeLost slot l) = false
+starts_epoch (OutputLost w) = false
+starts_epoch (Rerun w) = false
+starts_epoch (Stopped cause) = false
+starts_epoch (Ready v) = false
+starts_epoch (Published v) = false
+starts_epoch CommitStarted = false
+starts_epoch Finished = false
+starts_epoch Purged = false
 
 -- the greatest number to schedule since the last open
 abbrev pub greatest_to_schedule : Dag → ConfValues → ℕ → Past → ℕ

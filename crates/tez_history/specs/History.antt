@@ -37,12 +37,11 @@ is_up (Stopped _ ∷ past) = false
 is_up (Purged ∷ past) = false
 is_up (_ ∷ past) = is_up past
 
--- the tasks and base of a vertex, once configured since the last open
+-- the tasks and base of a vertex, once configured since the last open; they stay in force after a stop until the next open
 abbrev pub config : ℕ → Past → Option Config
 config v [] = None
 config v (Opened _ ∷ past) = None
 config v (Over ∷ past) = None
-config v (Stopped _ ∷ past) = None
 config v (Stands w tasks base ∷ past) = if w.0 == v then Some (shape tasks base) else config v past
 config v (Configured w tasks base ∷ past) = if w.0 == v then Some (shape tasks base) else config v past
 config v (_ ∷ past) = config v past
@@ -106,7 +105,12 @@ live t (Failed a ∷ past) = if same_task a.task t then None else live t past
 live t (Killed a _ ∷ past) = if same_task a.task t then None else live t past
 live t (_ ∷ past) = live t past
 
--- the winner of a task: its last attempt in `done` or `kept`, unless withdrawn or stopped since
+-- the attempt that was here, unless it is this one
+abbrev pub freed : AttemptId → Option AttemptId → Option AttemptId
+freed a None = None
+freed a (Some b) = if same_attempt a b then None else Some b
+
+-- the winner of a task: its last attempt in `done` or `kept`, unless it was withdrawn or a stop came since
 abbrev pub winner : TaskId → Past → Option AttemptId
 winner t [] = None
 winner t (Opened _ ∷ past) = None
@@ -114,7 +118,7 @@ winner t (Over ∷ past) = None
 winner t (Stopped _ ∷ past) = None
 winner t (Kept a ∷ past) = if same_task a.task t then Some a else winner t past
 winner t (Succeeded a ∷ past) = if same_task a.task t then Some a else winner t past
-winner t (Rerun a ∷ past) = if same_task a.task t then None else winner t past
+winner t (Rerun a ∷ past) = freed a (winner t past)
 winner t (_ ∷ past) = winner t past
 
 -- the failures of a task, those read from the journal among them
@@ -134,10 +138,6 @@ released false holder = holder
 abbrev pub is_attempt : AttemptId → Option AttemptId → Bool
 is_attempt a None = false
 is_attempt a (Some b) = same_attempt a b
-
-abbrev pub freed : AttemptId → Option AttemptId → Option AttemptId
-freed a None = None
-freed a (Some b) = if same_attempt a b then None else Some b
 
 abbrev pub holder : ℕ → Past → Option AttemptId
 holder p [] = None

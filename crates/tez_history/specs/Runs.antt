@@ -2,7 +2,7 @@
 --     Standing, Found            what a new master goes on from, and what it can find
 --     Happening                  an event, a report, a stop, or a new master
 --     run g c r hs               the run after these happenings
-use Rattle.std.specs.Prelude.{◌≡◌, ◌⊎◌, ℕ, suc, true, IsTrue, not, ◌&&◌, nat_le, if◌then◌else◌, List, [], ◌∷◌, ◌++◌, map, Option, Some, None, is_some, is_none}
+use Rattle.std.specs.Prelude.{◌≡◌, ◌⊎◌, ℕ, suc, max, true, IsTrue, not, ◌&&◌, nat_le, if◌then◌else◌, List, [], ◌∷◌, ◌++◌, map, Option, Some, None, is_some, is_none}
 use Rattle.std.specs.List.{find}
 use Rattle.tez_ids.specs.declared.TaskId.{TaskId}
 use Rattle.tez_ids.specs.declared.AttemptId.{AttemptId}
@@ -16,7 +16,7 @@ use Rattle.tez_events.specs.declared.Entry.TheVariants.{Opened, Over, Stands, Ca
 use Rattle.tez_events.specs.declared.CoreEvent.{CoreEvent}
 use Rattle.tez_events.specs.declared.CoreEvent.TheVariants.{Open, Configure, Queue, Place, Fetch, Send, Preempt, Fail, LoseNode, LoseOutput, Restart, Ready, CommitStart, Publish, Finish, Purge}
 use Rattle.tez_history.specs.Shape.{is_vertex}
-use Rattle.tez_history.specs.History.{Past, config, extend, stage, is_up, stops, failures}
+use Rattle.tez_history.specs.History.{Past, epoch, config, extend, stage, is_up, stops, failures}
 use Rattle.tez_history.specs.Derived.{is_task, is_processing}
 use Rattle.tez_history.specs.Steps.{each_after, enabled, entries_of, done_entries}
 use Rattle.tez_history.specs.Rules.{is_at_start}
@@ -69,8 +69,9 @@ standing_entries g past s =
     let carried = carried_entries s.failed in
     stands ++ (carried ++ each_after (kept_if g) (extend (extend past stands) carried) s.kept)
 
+-- its epoch is above that of what it goes on from, and above each before
 abbrev pub opened_at : Standing → Past → Past
-opened_at s past = Opened (record { 0 = suc s.epoch }) ∷ past
+opened_at s past = Opened (record { 0 = suc (max s.epoch (epoch past)) }) ∷ past
 
 abbrev pub ended_by : Run → Verdict → Run
 ended_by r v = record { past = r.past; verdict = Some v }

@@ -23,7 +23,7 @@ use Rattle.tez_laws.proofs.StepLaw.{both}
 
 -- ---- members of lists
 
-from-append : {X : Type 0} (x : X) (xs ys : List X) → In x (xs ++ ys) → In x xs ⊎ In x ys
+pub from-append : {X : Type 0} (x : X) (xs ys : List X) → In x (xs ++ ys) → In x xs ⊎ In x ys
 from-append x [] ys h = inr h
 from-append x (y ∷ xs) ys (inl e) = inl (inl e)
 from-append x (y ∷ xs) ys (inr h) = by (from-append x xs ys h) where
@@ -31,14 +31,14 @@ from-append x (y ∷ xs) ys (inr h) = by (from-append x xs ys h) where
   by (inl k) = inl (inr k)
   by (inr k) = inr k
 
-from-flat : {X Y : Type 0} (f : X → List Y) (y : Y) (xs : List X) → In y (flat_map f xs) → (x : X) × In x xs × In y (f x)
+pub from-flat : {X Y : Type 0} (f : X → List Y) (y : Y) (xs : List X) → In y (flat_map f xs) → (x : X) × In x xs × In y (f x)
 from-flat f y [] h = absurd h
 from-flat {X} {Y} f y (x ∷ xs) h = by (λ m. from-flat f y xs m) (from-append y (f x) (flat_map f xs) h) where
   by : (In y (flat_map f xs) → (z : X) × In z xs × In y (f z)) → In y (f x) ⊎ In y (flat_map f xs) → (z : X) × In z (x ∷ xs) × In y (f z)
   by ih (inl k) = (x, inl refl, k)
   by ih (inr k) = let r = ih k in (r.0, inr r.1, r.2)
 
-from-map : {X Y : Type 0} (f : X → Y) (y : Y) (xs : List X) → In y (map f xs) → (x : X) × In x xs × (y ≡ f x)
+pub from-map : {X Y : Type 0} (f : X → Y) (y : Y) (xs : List X) → In y (map f xs) → (x : X) × In x xs × (y ≡ f x)
 from-map f y [] h = absurd h
 from-map f y (x ∷ xs) (inl e) = (x, inl refl, e)
 from-map f y (x ∷ xs) (inr h) = let r = from-map f y xs h in (r.0, inr r.1, r.2)
@@ -48,7 +48,7 @@ from-numbers a zero i h = absurd h
 from-numbers a (suc n) i (inl e) = omega (arith, e)
 from-numbers a (suc n) i (inr h) = let k : i < suc a + n = from-numbers (suc a) n i h in omega arith
 
-from-below : (n i : ℕ) → In i (numbers_below n) → i < n
+pub from-below : (n i : ℕ) → In i (numbers_below n) → i < n
 from-below n i h = let k : i < 0 + n = from-numbers 0 n i h in omega arith
 
 all_pass : {X : Type 0} (p : X → Bool) (xs : List X) → ((x : X) → In x xs → p x ≡ true) → list_all p xs ≡ true

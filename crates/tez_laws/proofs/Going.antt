@@ -1,19 +1,21 @@
 -- Between two steps each task that was kept or scheduled has a winner or a live attempt.
 use Rattle.std.specs.Prelude.{◌≡◌, ℕ, suc, Bool, true, false, ◌||◌, if◌then◌else◌, List, [], ◌∷◌, ◌++◌, map, Option, Some, None, refl}
-use Rattle.std.proofs.Common.{sym, subst}
+use Rattle.std.proofs.Common.{sym, ap, ◌∙◌, subst}
 use Rattle.tez_ids.specs.declared.TaskId.{TaskId}
 use Rattle.tez_ids.specs.declared.AttemptId.{AttemptId}
 use Rattle.tez_events.specs.declared.Entry.{Entry}
 use Rattle.tez_events.specs.declared.Entry.TheVariants.{Queued, Fetched, ReadError, InputFailed, Succeeded, Made, Failed, Killed, NodeLost, Rerun}
 use Rattle.tez_events.specs.declared.CoreEvent.{CoreEvent}
 use Rattle.tez_events.specs.declared.CoreEvent.TheVariants.{Open, Configure, Queue, Place, Fetch, Send, Preempt, Fail, LoseNode, LoseOutput, Restart, Ready, CommitStart, Publish, Finish, Purge}
-use Rattle.tez_ids.specs.Same.{same_task}
+use Rattle.tez_ids.specs.Same.{same_task, same_attempt}
 use Rattle.tez_plan.specs.Dag.{Dag, edge}
 use Rattle.tez_conf.specs.declared.values.ConfValues.{ConfValues}
-use Rattle.tez_history.specs.History.{Past, extend, live, winner, holder, life, is_scheduled, is_committing}
+use Rattle.tez_history.specs.History.{Past, extend, live, winner, freed, holder, life, is_scheduled, is_committing}
 use Rattle.tez_history.specs.Derived.{tasks, notices, next_attempt, places_on, is_on_node, is_on_shelf}
 use Rattle.tez_history.specs.Steps.{entries_of, each_after, requeue, withdrawal, killed_by_node, kill_at, withdrawn_if, withdraw_lost, node_kills, node_withdrawals, fetch_entries, winner_behind, output_lost_entries, done_entries}
 use Rattle.tez_laws.specs.Laws.{GoesOn, SpendsNot}
+use Rattle.tez_laws.proofs.Same.{same_task-refl, same_attempt-true}
+use Rattle.tez_laws.proofs.Tasks.{winner_task}
 use Rattle.tez_laws.proofs.StepLaw.{AllNotices, notices_are, through}
 
 -- ---- lists of entries, one after another
@@ -49,9 +51,19 @@ fine_again : (same : Bool) (n : AttemptId) (l w : Option AttemptId) (s : Bool) �
 fine_again true n l w s h = λ e k. cc
 fine_again false n l w s h = h
 
-fine_withdrawn : (same : Bool) (n : AttemptId) (l w : Option AttemptId) (s : Bool) → IsFine l w s → IsFine (if same then Some n else l) (if same then None else w) (same || s)
-fine_withdrawn true n l w s h = λ e k. cc
-fine_withdrawn false n l w s h = h
+-- where the attempt that goes is not the winner of another task
+fine_withdrawn : (same : Bool) (b n : AttemptId) (l w : Option AttemptId) (s : Bool) → (same ≡ false → freed b w ≡ w) → IsFine l w s → IsFine (if same then Some n else l) (freed b w) (same || s)
+fine_withdrawn true b n l w s stays h = λ e k. cc
+fine_withdrawn false b n l w s stays h = λ e k. h e (sym (stays refl) ∙ k)
+
+stays_winner : (b : AttemptId) (u : TaskId) (w : Option AttemptId) → ((a : AttemptId) → w ≡ Some a → a.task ≡ u) → same_task b.task u ≡ false → freed b w ≡ w
+stays_winner b u None of other = refl
+stays_winner b u (Some x) of other = by (same_attempt b x) refl where
+  by : (same : Bool) → same_attempt b x ≡ same → (if same then None else Some x) ≡ Some x
+  by true e =
+      let at : same_task b.task u ≡ true = subst (λ t. same_task b.task t ≡ true) (ap (λ a. a.task) (same_attempt-true b x e) ∙ of x refl) (same_task-refl b.task) in
+      cc
+  by false e = refl
 
 fine_done : (same : Bool) (n : AttemptId) (l w : Option AttemptId) (s : Bool) → IsFine l w s → IsFine (if same then None else l) (if same then Some n else w) s
 fine_done true n l w s h = λ e k. cc
@@ -74,9 +86,10 @@ failed_going past a g u = fine_again (same_task a.task u) (next_attempt past a.t
 tell_going : (past : Past) (w n : AttemptId) (es : List Entry) → AllNotices es → n.task ≡ w.task → GoesOn past → GoesOn (Queued n ∷ extend (Rerun w ∷ past) es)
 tell_going past w n es h of g u =
     let l : live u (extend (Rerun w ∷ past) es) ≡ live u past = through (λ p. live u p) (λ p a e i x. refl) (Rerun w ∷ past) es h in
-    let k : winner u (extend (Rerun w ∷ past) es) ≡ (if same_task w.task u then None else winner u past) = through (λ p. winner u p) (λ p a e i x. refl) (Rerun w ∷ past) es h in
+    let k : winner u (extend (Rerun w ∷ past) es) ≡ freed w (winner u past) = through (λ p. winner u p) (λ p a e i x. refl) (Rerun w ∷ past) es h in
     let s : is_scheduled u (extend (Rerun w ∷ past) es) ≡ is_scheduled u past = through (λ p. is_scheduled u p) (λ p a e i x. refl) (Rerun w ∷ past) es h in
-    rw (of, l, k, s) (fine_withdrawn (same_task w.task u) (record { epoch = n.epoch; task = w.task; number = n.number }) (live u past) (winner u past) (is_scheduled u past) (g u))
+    rw (of, l, k, s) (fine_withdrawn (same_task w.task u) w (record { epoch = n.epoch; task = w.task; number = n.number }) (live u past) (winner u past) (is_scheduled u past)
+    (stays_winner w u (winner u past) (winner_task past u)) (g u))
 
 withdrawal_going : (g : Dag) (past : Past) (w : AttemptId) → GoesOn past → GoesOn (extend past (withdrawal g past w))
 withdrawal_going g past w h =

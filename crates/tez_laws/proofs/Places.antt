@@ -31,7 +31,7 @@ placed_known (Waits p) h = tt
 placed_known (Runs p) h = tt
 placed_known Ended h = tt
 
-sent_known : (b : Bool) (s : Stage) → IsKnown (sent b s) → IsKnown s
+pub sent_known : (b : Bool) (s : Stage) → IsKnown (sent b s) → IsKnown s
 sent_known true Unknown h = h
 sent_known true InQueue h = tt
 sent_known true (Waits p) h = tt
@@ -53,7 +53,7 @@ counted_moved b a x s e n ih was h = grind (arith, same_attempt-true)
 along : (past : Past) (b a : AttemptId) → IsKnown (stage b past) → b ≡ a → IsKnown (stage a past)
 along past b a h e = subst (λ x. IsKnown (stage x past)) e h
 
-waiting_known : (s : Stage) → IsTrue (is_waiting s) → IsKnown s
+pub waiting_known : (s : Stage) → IsTrue (is_waiting s) → IsKnown s
 waiting_known (Waits p) h = tt
 waiting_known InQueue h = tt
 waiting_known (Runs p) h = tt
@@ -67,7 +67,7 @@ running_known (Runs p) h = tt
 running_known Ended h = tt
 running_known Unknown h = cc
 
-new_counted : (past : Past) (b a : AttemptId) → b ≡ next_attempt past b.task → b ≡ a → IsCounted a (epoch past) (1 + attempts a.task past)
+pub new_counted : (past : Past) (b a : AttemptId) → b ≡ next_attempt past b.task → b ≡ a → IsCounted a (epoch past) (1 + attempts a.task past)
 new_counted past b a new same = subst (λ x. IsCounted x (epoch past) (1 + attempts x.task past)) same (ap (λ x. x.epoch.0) new, let e : b.number ≡ attempts b.task past = ap (λ x. x.number) new in omega arith)
 
 pub known : (g : Dag) (c : ConfValues) (past : Past) → IsMade g c past → (a : AttemptId) → IsKnown (stage a past) → IsCounted a (epoch past) (attempts a.task past)
@@ -139,7 +139,7 @@ fresh_place g c past m b a p new same at =
 pub held : (g : Dag) (c : ConfValues) (past : Past) → IsMade g c past → (p : ℕ) (a : AttemptId) → holder p past ≡ Some a → place_in (stage a past) ≡ Some p
 held g c [] m p a h = cc
 held g c (Stopped _ ∷ past) m p a h = cc
-held g c (Opened _ ∷ past) m p a h = let none : holder p past ≡ None = none_held_at_start past p m.0 in cc
+held g c (Opened _ ∷ past) m p a h = let none : holder p past ≡ None = none_held_at_start past p m.0.0 in cc
 held g c (Over ∷ past) m p a h = let none : holder p past ≡ None = none_held_at_start past p m.0 in cc
 held g c (Queued b ∷ past) m p a h = held_queued b a (stage a past) p (held g c past m.1 p a h) (fresh_place g c past m.1 b a p m.0.2)
 held g c (Placed b k q ∷ past) m p a h =

@@ -75,7 +75,6 @@ pub configured_is_vertex : (g : Dag) (c : ConfValues) (past : Past) → IsMade g
 configured_is_vertex g c [] m v h = cc
 configured_is_vertex g c (Opened _ ∷ past) m v h = cc
 configured_is_vertex g c (Over ∷ past) m v h = cc
-configured_is_vertex g c (Stopped _ ∷ past) m v h = cc
 configured_is_vertex g c (Stands w n b ∷ past) m v h = other_vertex g w.0 v (config v past) (shape n b) m.0.1 (configured_is_vertex g c past m.1 v) h
 configured_is_vertex g c (Configured w n b ∷ past) m v h = other_vertex g w.0 v (config v past) (shape n b) m.0.2 (configured_is_vertex g c past m.1 v) h
 configured_is_vertex g c (_ ∷ past) m v h = configured_is_vertex g c past m.1 v h

@@ -1,7 +1,8 @@
 -- Every run is sound.
-use Rattle.std.specs.Prelude.{◌≡◌, ℕ, suc, ◌+◌, ◌<◌, ◌≤◌, nat_le, ⊤, Bool, true, false, IsTrue, not, ◌&&◌, ◌||◌, if◌then◌else◌, List, [], ◌∷◌, ◌++◌, map, Option, Some, None, is_some, is_none, refl}
+use Rattle.std.specs.Prelude.{◌≡◌, ℕ, suc, ◌+◌, ◌<◌, ◌≤◌, nat_le, max, ⊤, Bool, true, false, IsTrue, not, ◌&&◌, ◌||◌, if◌then◌else◌, List, [], ◌∷◌, ◌++◌, map, Option, Some, None, is_some, is_none, refl}
 use Rattle.std.specs.List.{find}
 use Rattle.std.proofs.Common.{inl, inr, subst, ap, arith, lt-ltb}
+use Rattle.std.proofs.Math.Nat.{le-max_right}
 use Rattle.std.proofs.lemmas.Bool.Decides.{nat_tests}
 use Rattle.tez_ids.specs.declared.TaskId.{TaskId}
 use Rattle.tez_ids.specs.declared.AttemptId.{AttemptId}
@@ -12,59 +13,65 @@ use Rattle.tez_vman.specs.declared.seen.Config.{Config}
 use Rattle.tez_events.specs.declared.StopCause.{StopCause}
 use Rattle.tez_events.specs.declared.StopCause.TheVariants.{Script}
 use Rattle.tez_events.specs.declared.Entry.{Entry}
-use Rattle.tez_events.specs.declared.Entry.TheVariants.{Opened, Over, Stands, Carried, Kept, Queued, Fetched, ReadError, InputFailed, Made, Failed, NodeLost, Stopped, Purged}
+use Rattle.tez_events.specs.declared.Entry.TheVariants.{Opened, Over, Stands, Carried, Kept, Queued, Fetched, ReadError, InputFailed, Made, Failed, NodeLost, Rerun, Stopped, Purged}
 use Rattle.tez_events.specs.declared.CoreEvent.{CoreEvent}
 use Rattle.tez_events.specs.declared.CoreEvent.TheVariants.{Open, Configure, Queue, Place, Fetch, Send, Preempt, Fail, LoseNode, LoseOutput, Restart, Ready, CommitStart, Publish, Finish, Purge}
 use Rattle.tez_history.specs.Shape.{is_vertex}
-use Rattle.tez_history.specs.History.{Past, config, extend, stage, live, winner, holder, is_up, life, failures, is_scheduled, is_committing}
+use Rattle.tez_history.specs.History.{Past, epoch, config, extend, stage, live, winner, holder, is_up, life, failures, is_scheduled, is_committing}
 use Rattle.tez_history.specs.Derived.{is_task, tasks, is_processing, notices, places_on, is_on_node, is_on_shelf}
 use Rattle.tez_history.specs.Steps.{enabled, is_running, entries_of, each_after, requeue, withdrawal, killed_by_node, kill_at, withdrawn_if, withdraw_lost, node_kills, node_withdrawals, fetch_entries, winner_behind, output_lost_entries, done_entries}
-use Rattle.tez_history.specs.Rules.{is_at_start, is_start, withdrawals_right, owed}
-use Rattle.tez_history.specs.Follows.{AllMayFollow}
+use Rattle.tez_history.specs.Rules.{is_at_start, is_start, withdrawals_right, withdraws_there, owed}
+use Rattle.tez_history.specs.Follows.{IsOpen, MayFollow, IsMade, AllMayFollow}
 use Rattle.tez_history.specs.Runs.{Standing, stands_if, kept_if, carried_entries, opened_at, Run, Verdict, Found, Unfinished, AllDone, Begun, Happening, Event, Report, Stop, Start, standing_entries, spent_in, opened_unless, opened_by, going_on, ended_by, stopped, stepped, took, happens_to, happens, run, not_begun, IsBetween}
 use Rattle.tez_laws.specs.Laws.{Obeys, OwesRight, GoesOn, SpendsNot, FewFailures, spent_right, start_alone, IsSound}
-use Rattle.tez_laws.proofs.StepLaw.{may-append, made-extend, event_may, done_may, AllNotices, notices_are, both}
+use Rattle.tez_laws.proofs.StepLaw.{may-append, made-extend, event_may, done_may, AllNotices, notices_are, both, up_open}
 use Rattle.tez_laws.proofs.Same.{same_task-true}
+use Rattle.tez_laws.proofs.Opening.{all_hold, winner_there}
 use Rattle.tez_laws.proofs.Withdrawals.{event_owes, done_owes}
 use Rattle.tez_laws.proofs.Going.{event_going, done_going}
 
 -- ---- tests along a list of entries
 
-abbrev Passes : (Dag → ConfValues → Past → Entry → Bool) → Dag → ConfValues → Past → List Entry → Type 0
+abbrev pub Passes : (Dag → ConfValues → Past → Entry → Bool) → Dag → ConfValues → Past → List Entry → Type 0
 Passes rule g c past [] = ⊤
 Passes rule g c past (e ∷ es) = (rule g c past e ≡ true) × Passes rule g c (e ∷ past) es
 
-obeys-extend : (rule : Dag → ConfValues → Past → Entry → Bool) (g : Dag) (c : ConfValues) (past : Past) (es : List Entry) → Obeys rule g c past → Passes rule g c past es → Obeys rule g c (extend past es)
+pub passes-append : (rule : Dag → ConfValues → Past → Entry → Bool) (g : Dag) (c : ConfValues) (past : Past) (xs ys : List Entry) → Passes rule g c past xs → Passes rule g c (extend past xs) ys → Passes rule g c past (xs ++ ys)
+passes-append rule g c past [] ys h k = k
+passes-append rule g c past (x ∷ xs) ys h k = (h.0, passes-append rule g c (x ∷ past) xs ys h.1 k)
+
+pub obeys-extend : (rule : Dag → ConfValues → Past → Entry → Bool) (g : Dag) (c : ConfValues) (past : Past) (es : List Entry) → Obeys rule g c past → Passes rule g c past es → Obeys rule g c (extend past es)
 obeys-extend rule g c past [] o p = o
 obeys-extend rule g c past (e ∷ es) o p = obeys-extend rule g c (e ∷ past) es (p.0, o) p.1
 
-owes-passes : (g : Dag) (c : ConfValues) (past : Past) (es : List Entry) → OwesRight g past es → Passes withdrawals_right g c past es
-owes-passes g c past [] h = tt
-owes-passes g c past (e ∷ es) h = (h.0, owes-passes g c (e ∷ past) es h.1)
+-- what is withdrawn is there
+withdraws_follow : (g : Dag) (c : ConfValues) (past : Past) (e : Entry) → IsMade g c past → MayFollow g c past e → withdraws_there g past e ≡ true
+withdraws_follow g c past (Rerun w) made m = winner_there g c past w.task w made m
+withdraws_follow g c past _ made m = refl
 
-owes-settled : (g : Dag) (past : Past) (es : List Entry) → OwesRight g past es → owed g (extend past es) ≡ []
+owes-passes : (g : Dag) (c : ConfValues) (past : Past) (es : List Entry) → IsMade g c past → AllMayFollow g c past es → OwesRight g past es → Passes withdrawals_right g c past es
+owes-passes g c past [] made may h = tt
+owes-passes g c past (e ∷ es) made may h = (all_hold _ _ h.0 (withdraws_follow g c past e made may.0), owes-passes g c (e ∷ past) es (may.0, made) may.1 h.1)
+
+pub owes-settled : (g : Dag) (past : Past) (es : List Entry) → OwesRight g past es → owed g (extend past es) ≡ []
 owes-settled g past [] h = h
 owes-settled g past (e ∷ es) h = owes-settled g (e ∷ past) es h.1
 
--- ---- entries that leave the master up, and no failure
+-- ---- entries that leave the master up, with no failure and nothing that a new master found
 
 abbrev pub AllQuiet : List Entry → Type 0
 AllQuiet [] = ⊤
 AllQuiet (Opened _ ∷ es) = ⊥
 AllQuiet (Over ∷ es) = ⊥
+AllQuiet (Stands _ _ _ ∷ es) = ⊥
 AllQuiet (Stopped _ ∷ es) = ⊥
 AllQuiet (Purged ∷ es) = ⊥
 AllQuiet (Failed _ ∷ es) = ⊥
 AllQuiet (Carried _ _ ∷ es) = ⊥
 AllQuiet (_ ∷ es) = AllQuiet es
 
-up_going : (past : Past) → is_up past ≡ true → is_at_start past ≡ false
-up_going [] h = cc
-up_going (Stopped _ ∷ past) h = cc
-up_going (_ ∷ past) h = refl
-
 alone_up : (g : Dag) (c : ConfValues) (past : Past) (e : Entry) → is_up past ≡ true → start_alone g c past e ≡ true
-alone_up g c past e up = ap (λ b. not b || is_start e) (up_going past up)
+alone_up g c past e up = ap (λ b. not b || is_start e) (up_open past up)
 
 -- what quiet entries keep: the master up, few failures, and two rules
 pub record Stays (g : Dag) (c : ConfValues) (past : Past) (es : List Entry) : Type 0 where
@@ -88,6 +95,7 @@ quiet_stays : (g : Dag) (c : ConfValues) (past : Past) (es : List Entry) → is_
 quiet_stays g c past [] up few h = stays_none g c past up few
 quiet_stays g c past (Opened _ ∷ es) up few h = absurd h
 quiet_stays g c past (Over ∷ es) up few h = absurd h
+quiet_stays g c past (Stands _ _ _ ∷ es) up few h = absurd h
 quiet_stays g c past (Stopped _ ∷ es) up few h = absurd h
 quiet_stays g c past (Purged ∷ es) up few h = absurd h
 quiet_stays g c past (Failed _ ∷ es) up few h = absurd h
@@ -98,6 +106,7 @@ quiet-append : (xs ys : List Entry) → AllQuiet xs → AllQuiet ys → AllQuiet
 quiet-append [] ys h k = k
 quiet-append (Opened _ ∷ xs) ys h k = absurd h
 quiet-append (Over ∷ xs) ys h k = absurd h
+quiet-append (Stands _ _ _ ∷ xs) ys h k = absurd h
 quiet-append (Stopped _ ∷ xs) ys h k = absurd h
 quiet-append (Purged ∷ xs) ys h k = absurd h
 quiet-append (Failed _ ∷ xs) ys h k = absurd h
@@ -151,14 +160,14 @@ quiet_output None = tt
 quiet_output (Some w) = tt
 
 -- events that neither stop nor end the master, nor count a failure
-abbrev IsQuiet : CoreEvent → Type 0
+abbrev pub IsQuiet : CoreEvent → Type 0
 IsQuiet Restart = ⊥
 IsQuiet Purge = ⊥
 IsQuiet Open = ⊥
 IsQuiet (Fail a) = ⊥
 IsQuiet _ = ⊤
 
-quiet_event : (g : Dag) (c : ConfValues) (past : Past) (e : CoreEvent) → IsQuiet e → AllQuiet (entries_of g c past e)
+pub quiet_event : (g : Dag) (c : ConfValues) (past : Past) (e : CoreEvent) → IsQuiet e → AllQuiet (entries_of g c past e)
 quiet_event g c past (Configure v) h = tt
 quiet_event g c past (Queue t) h = tt
 quiet_event g c past (Place a p) h = tt
@@ -176,7 +185,7 @@ quiet_event g c past Restart h = absurd h
 quiet_event g c past Purge h = absurd h
 quiet_event g c past Open h = absurd h
 
-quiet_made : (a : AttemptId) (made : List (ℕ × ℕ)) → AllQuiet (map (λ m. Made a (edge m.0) m.1) made)
+pub quiet_made : (a : AttemptId) (made : List (ℕ × ℕ)) → AllQuiet (map (λ m. Made a (edge m.0) m.1) made)
 quiet_made a [] = tt
 quiet_made a (x ∷ xs) = quiet_made a xs
 
@@ -188,12 +197,12 @@ more_failures a t n m max few at next = by (same_task a.task t) refl where
   by true e = let k : suc m < max = next e in omega arith
   by false e = omega arith
 
-few_failed : (c : ConfValues) (past : Past) (a : AttemptId) → FewFailures c past → suc (failures a.task past) < c.max_failed → FewFailures c (Failed a ∷ past)
+pub few_failed : (c : ConfValues) (past : Past) (a : AttemptId) → FewFailures c past → suc (failures a.task past) < c.max_failed → FewFailures c (Failed a ∷ past)
 few_failed c past a few next t =
     more_failures a t 0 (failures t past) c.max_failed (few t) (λ e. (let k : failures t past < c.max_failed = few t in omega arith))
     (λ e. subst (λ u. suc (failures u past) < c.max_failed) (same_task-true a.task t e) next)
 
-not_spent : (n max : ℕ) → nat_le max n ≡ false → n < max
+pub not_spent : (n max : ℕ) → nat_le max n ≡ false → n < max
 not_spent n max h = grind (arith, nat_tests)
 
 -- ---- runs
@@ -204,7 +213,7 @@ sound_step : (g : Dag) (c : ConfValues) (r : Run) (es : List Entry) → IsSound 
 sound_step g c r es s may owes goes stays =
     record {
       made = made-extend g c r.past es s.made may;
-      withdrawals = obeys-extend withdrawals_right g c r.past es s.withdrawals (owes-passes g c r.past es owes);
+      withdrawals = obeys-extend withdrawals_right g c r.past es s.withdrawals (owes-passes g c r.past es s.made may owes);
       settled = owes-settled g r.past es owes;
       unspent = obeys-extend spent_right g c r.past es s.unspent stays.unspent;
       starts = obeys-extend start_alone g c r.past es s.starts stays.alone;
@@ -219,7 +228,7 @@ sound_end : (g : Dag) (c : ConfValues) (r : Run) (v : Verdict) (es : List Entry)
 sound_end g c r v es s may owes unspent alone =
     record {
       made = made-extend g c r.past es s.made may;
-      withdrawals = obeys-extend withdrawals_right g c r.past es s.withdrawals (owes-passes g c r.past es owes);
+      withdrawals = obeys-extend withdrawals_right g c r.past es s.withdrawals (owes-passes g c r.past es s.made may owes);
       settled = owes-settled g r.past es owes;
       unspent = obeys-extend spent_right g c r.past es s.unspent unspent;
       starts = obeys-extend start_alone g c r.past es s.starts alone;
@@ -298,23 +307,37 @@ opening-append c (Carried _ _ ∷ xs) ys h k = (h.0, opening-append c xs ys h.1 
 opening-append c (Kept _ ∷ xs) ys h k = opening-append c xs ys h k
 opening-append c (_ ∷ xs) ys h k = absurd h
 
+opening_stand : (g : Dag) (c : ConfValues) (past : Past) (x : ℕ × Config) → AllOpening c (stands_if g past x)
+opening_stand g c past x = by (is_none (config x.0 past) && is_vertex g x.0) where
+  by : (b : Bool) → AllOpening c (if b then Stands (vertex x.0) x.1.tasks x.1.base ∷ [] else [])
+  by true = tt
+  by false = tt
+
 opening_stands : (g : Dag) (c : ConfValues) (past : Past) (xs : List (ℕ × Config)) → AllOpening c (each_after (stands_if g) past xs)
 opening_stands g c past [] = tt
 opening_stands g c past (x ∷ xs) =
-    opening-append c (stands_if g past x) (each_after (stands_if g) (extend past (stands_if g past x)) xs) (by (is_none (config x.0 past) && is_vertex g x.0)) (opening_stands g c (extend past (stands_if g past x)) xs) where
-      by : (b : Bool) → AllOpening c (if b then Stands (vertex x.0) x.1.tasks x.1.base ∷ [] else [])
-      by true = tt
-      by false = tt
+    opening-append c (stands_if g past x) (each_after (stands_if g) (extend past (stands_if g past x)) xs) (opening_stand g c past x) (opening_stands g c (extend past (stands_if g past x)) xs)
+
+opening_keep : (g : Dag) (c : ConfValues) (past : Past) (a : AttemptId) → AllOpening c (kept_if g past a)
+opening_keep g c past a = by (is_task g past a.task) where
+  by : (b : Bool) → AllOpening c (if b then Kept a ∷ [] else [])
+  by true = tt
+  by false = tt
 
 opening_kept : (g : Dag) (c : ConfValues) (past : Past) (xs : List AttemptId) → AllOpening c (each_after (kept_if g) past xs)
 opening_kept g c past [] = tt
 opening_kept g c past (a ∷ xs) =
-    opening-append c (kept_if g past a) (each_after (kept_if g) (extend past (kept_if g past a)) xs) (by (is_task g past a.task)) (opening_kept g c (extend past (kept_if g past a)) xs) where
-      by : (b : Bool) → AllOpening c (if b then Kept a ∷ [] else [])
-      by true = tt
-      by false = tt
+    opening-append c (kept_if g past a) (each_after (kept_if g) (extend past (kept_if g past a)) xs) (opening_keep g c past a) (opening_kept g c (extend past (kept_if g past a)) xs)
 
-opening_carried : (c : ConfValues) (xs : List (TaskId × ℕ)) → find (λ x. nat_le c.max_failed x.1) xs ≡ None → AllOpening c (map (λ x. Carried x.0 x.1) xs)
+-- a master that was opened stays so
+opening_open : (c : ConfValues) (past : Past) (es : List Entry) → IsOpen past → AllOpening c es → IsOpen (extend past es)
+opening_open c past [] o h = o
+opening_open c past (Stands v t b ∷ es) o h = opening_open c (Stands v t b ∷ past) es refl h
+opening_open c past (Carried t n ∷ es) o h = opening_open c (Carried t n ∷ past) es refl h.1
+opening_open c past (Kept a ∷ es) o h = opening_open c (Kept a ∷ past) es refl h
+opening_open c past (_ ∷ es) o h = absurd h
+
+pub opening_carried : (c : ConfValues) (xs : List (TaskId × ℕ)) → find (λ x. nat_le c.max_failed x.1) xs ≡ None → AllOpening c (map (λ x. Carried x.0 x.1) xs)
 opening_carried c [] h = tt
 opening_carried c (x ∷ xs) h = by (nat_le c.max_failed x.1) refl h (λ k. opening_carried c xs k) where
   by : (b : Bool) → nat_le c.max_failed x.1 ≡ b → (if b then Some x else find (λ x. nat_le c.max_failed x.1) xs) ≡ None
@@ -322,7 +345,7 @@ opening_carried c (x ∷ xs) h = by (nat_le c.max_failed x.1) refl h (λ k. open
   by true e k ih = cc
   by false e k ih = (not_spent x.1 c.max_failed e, ih k)
 
-abbrev NoLive : Past → Type 0
+abbrev pub NoLive : Past → Type 0
 NoLive past = (t : TaskId) → live t past ≡ None
 
 opening_idle : (c : ConfValues) (past : Past) (es : List Entry) → NoLive past → AllOpening c es → NoLive (extend past es)
@@ -332,18 +355,22 @@ opening_idle c past (Carried t n ∷ es) none h = opening_idle c (Carried t n �
 opening_idle c past (Kept a ∷ es) none h = opening_idle c (Kept a ∷ past) es none h
 opening_idle c past (_ ∷ es) none h = absurd h
 
-stands_may : (g : Dag) (c : ConfValues) (past : Past) (xs : List (ℕ × Config)) → AllMayFollow g c past (each_after (stands_if g) past xs)
-stands_may g c past [] = tt
-stands_may g c past (x ∷ xs) =
-    may-append g c past (stands_if g past x) (each_after (stands_if g) (extend past (stands_if g past x)) xs) (by (config x.0 past) (is_vertex g x.0) refl refl) (stands_may g c (extend past (stands_if g past x)) xs) where
-      by : (o : Option Config) (b : Bool) → config x.0 past ≡ o → is_vertex g x.0 ≡ b → AllMayFollow g c past (if is_none o && b then Stands (vertex x.0) x.1.tasks x.1.base ∷ [] else [])
-      by None true e k = ((e, k), tt)
-      by None false e k = tt
-      by (Some s) b e k = tt
+stand_may : (g : Dag) (c : ConfValues) (past : Past) (x : ℕ × Config) → IsOpen past → AllMayFollow g c past (stands_if g past x)
+stand_may g c past x o = by (config x.0 past) (is_vertex g x.0) refl refl where
+  by : (f : Option Config) (b : Bool) → config x.0 past ≡ f → is_vertex g x.0 ≡ b → AllMayFollow g c past (if is_none f && b then Stands (vertex x.0) x.1.tasks x.1.base ∷ [] else [])
+  by None true e k = ((e, k, o), tt)
+  by None false e k = tt
+  by (Some s) b e k = tt
 
-carried_may : (g : Dag) (c : ConfValues) (past : Past) (xs : List (TaskId × ℕ)) → AllMayFollow g c past (carried_entries xs)
-carried_may g c past [] = tt
-carried_may g c past (x ∷ xs) = (tt, carried_may g c (Carried x.0 x.1 ∷ past) xs)
+stands_may : (g : Dag) (c : ConfValues) (past : Past) (xs : List (ℕ × Config)) → IsOpen past → AllMayFollow g c past (each_after (stands_if g) past xs)
+stands_may g c past [] o = tt
+stands_may g c past (x ∷ xs) o =
+    may-append g c past (stands_if g past x) (each_after (stands_if g) (extend past (stands_if g past x)) xs) (stand_may g c past x o)
+    (stands_may g c (extend past (stands_if g past x)) xs (opening_open c past (stands_if g past x) o (opening_stand g c past x)))
+
+carried_may : (g : Dag) (c : ConfValues) (past : Past) (xs : List (TaskId × ℕ)) → IsOpen past → AllMayFollow g c past (carried_entries xs)
+carried_may g c past [] o = tt
+carried_may g c past (x ∷ xs) o = (o, carried_may g c (Carried x.0 x.1 ∷ past) xs refl)
 
 kept_idle : (g : Dag) (past : Past) (a : AttemptId) → NoLive past → NoLive (extend past (kept_if g past a))
 kept_idle g past a none = by (is_task g past a.task) where
@@ -351,25 +378,26 @@ kept_idle g past a none = by (is_task g past a.task) where
   by true = none
   by false = none
 
-kept_may : (g : Dag) (c : ConfValues) (past : Past) (xs : List AttemptId) → NoLive past → AllMayFollow g c past (each_after (kept_if g) past xs)
-kept_may g c past [] none = tt
-kept_may g c past (a ∷ xs) none =
+kept_may : (g : Dag) (c : ConfValues) (past : Past) (xs : List AttemptId) → NoLive past → IsOpen past → AllMayFollow g c past (each_after (kept_if g) past xs)
+kept_may g c past [] none o = tt
+kept_may g c past (a ∷ xs) none o =
     may-append g c past (kept_if g past a) (each_after (kept_if g) (extend past (kept_if g past a)) xs) (by (is_task g past a.task) refl)
-    (kept_may g c (extend past (kept_if g past a)) xs (kept_idle g past a none)) where
+    (kept_may g c (extend past (kept_if g past a)) xs (kept_idle g past a none) (opening_open c past (kept_if g past a) o (opening_keep g c past a))) where
       by : (b : Bool) → is_task g past a.task ≡ b → AllMayFollow g c past (if b then Kept a ∷ [] else [])
-      by true e = ((none a.task, e), tt)
+      by true e = ((none a.task, e, o), tt)
       by false e = tt
 
-opening_may : (g : Dag) (c : ConfValues) (past : Past) (s : Standing) → NoLive past → AllOpening c (carried_entries s.failed) → AllMayFollow g c past (standing_entries g past s)
-opening_may g c past s none few =
+pub opening_may : (g : Dag) (c : ConfValues) (past : Past) (s : Standing) → NoLive past → IsOpen past → AllOpening c (carried_entries s.failed) → AllMayFollow g c past (standing_entries g past s)
+opening_may g c past s none o few =
     let stands = each_after (stands_if g) past s.configured in
     let carried = carried_entries s.failed in
     let idle = opening_idle c (extend past stands) carried (opening_idle c past stands none (opening_stands g c past s.configured)) few in
-    may-append g c past stands (carried ++ each_after (kept_if g) (extend (extend past stands) carried) s.kept) (stands_may g c past s.configured)
-    (may-append g c (extend past stands) carried (each_after (kept_if g) (extend (extend past stands) carried) s.kept) (carried_may g c (extend past stands) s.failed)
-    (kept_may g c (extend (extend past stands) carried) s.kept idle))
+    let stood = opening_open c past stands o (opening_stands g c past s.configured) in
+    may-append g c past stands (carried ++ each_after (kept_if g) (extend (extend past stands) carried) s.kept) (stands_may g c past s.configured o)
+    (may-append g c (extend past stands) carried (each_after (kept_if g) (extend (extend past stands) carried) s.kept) (carried_may g c (extend past stands) s.failed stood)
+    (kept_may g c (extend (extend past stands) carried) s.kept idle (opening_open c (extend past stands) carried stood few)))
 
-opening_owes : (g : Dag) (c : ConfValues) (past : Past) (es : List Entry) → owed g past ≡ [] → AllOpening c es → OwesRight g past es
+pub opening_owes : (g : Dag) (c : ConfValues) (past : Past) (es : List Entry) → owed g past ≡ [] → AllOpening c es → OwesRight g past es
 opening_owes g c past [] o h = o
 opening_owes g c past (Stands v t b ∷ es) o h = (ap (λ os. Rattle.tez_history.specs.Rules.is_owed os (Stands v t b)) o, opening_owes g c (Stands v t b ∷ past) es refl h)
 opening_owes g c past (Carried t n ∷ es) o h = (ap (λ os. Rattle.tez_history.specs.Rules.is_owed os (Carried t n)) o, opening_owes g c (Carried t n ∷ past) es refl h.1)
@@ -383,7 +411,7 @@ kept_goes past a h t = by (same_task a.task t) (h t) where
   by true k l w = cc
   by false k l w = k l w
 
-opening_goes : (c : ConfValues) (past : Past) (es : List Entry) → GoesOn past → AllOpening c es → GoesOn (extend past es)
+pub opening_goes : (c : ConfValues) (past : Past) (es : List Entry) → GoesOn past → AllOpening c es → GoesOn (extend past es)
 opening_goes c past [] o h = o
 opening_goes c past (Stands v t b ∷ es) o h = opening_goes c (Stands v t b ∷ past) es o h
 opening_goes c past (Carried t n ∷ es) o h = opening_goes c (Carried t n ∷ past) es o h.1
@@ -396,7 +424,7 @@ few_carried c past s n few below t = by (same_task s t) where
   by true = below
   by false = few t
 
-opening_stays : (g : Dag) (c : ConfValues) (past : Past) (es : List Entry) → is_up past ≡ true → FewFailures c past → AllOpening c es → Stays g c past es
+pub opening_stays : (g : Dag) (c : ConfValues) (past : Past) (es : List Entry) → is_up past ≡ true → FewFailures c past → AllOpening c es → Stays g c past es
 opening_stays g c past [] up few h = stays_none g c past up few
 opening_stays g c past (Stands v t b ∷ es) up few h = stays_after g c past (Stands v t b) es up few (opening_stays g c (Stands v t b ∷ past) es up few h)
 opening_stays g c past (Carried t n ∷ es) up few h = stays_after g c past (Carried t n) es up few (opening_stays g c (Carried t n ∷ past) es up (few_carried c past t n few h.0) h.1)
@@ -410,7 +438,7 @@ start_sound : (g : Dag) (c : ConfValues) (r : Run) (first : Entry) (es : List En
 start_sound g c r first es s at may owes goes starts unspent stays =
     record {
       made = made-extend g c r.past (first ∷ es) s.made may;
-      withdrawals = obeys-extend withdrawals_right g c r.past (first ∷ es) s.withdrawals (owes-passes g c r.past (first ∷ es) owes);
+      withdrawals = obeys-extend withdrawals_right g c r.past (first ∷ es) s.withdrawals (owes-passes g c r.past (first ∷ es) s.made may owes);
       settled = owes-settled g r.past (first ∷ es) owes;
       unspent = obeys-extend spent_right g c (first ∷ r.past) es (unspent, s.unspent) stays.unspent;
       starts = obeys-extend start_alone g c (first ∷ r.past) es (starting (is_at_start r.past) (is_start first) starts, s.starts) stays.alone;
@@ -426,8 +454,21 @@ down_start : (past : Past) → not (is_up past) ≡ true → IsBetween past → 
 down_start past down (inl up) = let h : not true ≡ true = subst (λ b. not b ≡ true) up down in cc
 down_start past down (inr s) = s
 
-none_failed : (c : ConfValues) → 1 ≤ c.max_failed → 0 < c.max_failed
+pub none_failed : (c : ConfValues) → 1 ≤ c.max_failed → 0 < c.max_failed
 none_failed c h = omega arith
+
+-- the epoch of a new master is above the last one
+pub above_both : (m n : ℕ) → n < suc (max m n)
+above_both m n = let k : n ≤ max m n = le-max_right m n in omega arith
+
+-- what a new master adds where no task is spent
+pub standing_opening : (g : Dag) (c : ConfValues) (past : Past) (x : Standing) → spent_in c x ≡ None → AllOpening c (standing_entries g past x)
+standing_opening g c past x e =
+    let stands = each_after (stands_if g) past x.configured in
+    let carried = carried_entries x.failed in
+    let kept = each_after (kept_if g) (extend (extend past stands) carried) x.kept in
+    opening-append c stands (carried ++ kept) (opening_stands g c past x.configured)
+    (opening-append c carried kept (opening_carried c x.failed e) (opening_kept g c (extend (extend past stands) carried) x.kept))
 
 opened_sound : (g : Dag) (c : ConfValues) (r : Run) (found : Found) → 1 ≤ c.max_failed → IsSound g c r → IsTrue (is_at_start r.past) → IsSound g c (opened_by g c r found)
 opened_sound g c r Begun some s at = sound_ended g c r Verdict.CommitOpen s
@@ -435,24 +476,16 @@ opened_sound g c r AllDone some s at =
     start_sound g c r Over [] s at (at, tt) (ap (λ os. Rattle.tez_history.specs.Rules.is_owed os Over) s.settled, refl) (λ t l w. refl) refl refl
     (stays_none g c (Over ∷ r.past) refl (λ t. none_failed c some))
 opened_sound g c r (Unfinished x) some s at = by (spent_in c x) refl where
-  all_opening : spent_in c x ≡ None → AllOpening c (standing_entries g (opened_at x r.past) x)
-  all_opening e =
-      let stands = each_after (stands_if g) (opened_at x r.past) x.configured in
-      let carried = carried_entries x.failed in
-      let kept = each_after (kept_if g) (extend (extend (opened_at x r.past) stands) carried) x.kept in
-      opening-append c stands (carried ++ kept) (opening_stands g c (opened_at x r.past) x.configured)
-      (opening-append c carried kept (opening_carried c x.failed e) (opening_kept g c (extend (extend (opened_at x r.past) stands) carried) x.kept))
-
   by : (o : Option (TaskId × ℕ)) → spent_in c x ≡ o → IsSound g c (opened_unless g r x o)
   by (Some y) e = sound_ended g c r (Verdict.AttemptsSpent y.0) s
   by None e =
-      let first = Opened (record { 0 = suc x.epoch }) in
+      let first = Opened (record { 0 = suc (max x.epoch (epoch r.past)) }) in
       let es = standing_entries g (opened_at x r.past) x in
       start_sound g c r first es s at
-      (at, opening_may g c (opened_at x r.past) x (λ t. refl) (opening_carried c x.failed e))
-      (ap (λ os. Rattle.tez_history.specs.Rules.is_owed os first) s.settled, opening_owes g c (opened_at x r.past) es refl (all_opening e))
-      (opening_goes c (opened_at x r.past) es (λ t l w. refl) (all_opening e)) refl refl
-      (opening_stays g c (opened_at x r.past) es refl (λ t. none_failed c some) (all_opening e))
+      ((at, above_both x.epoch (epoch r.past)), opening_may g c (opened_at x r.past) x (λ t. refl) refl (opening_carried c x.failed e))
+      (ap (λ os. Rattle.tez_history.specs.Rules.is_owed os first) s.settled, opening_owes g c (opened_at x r.past) es refl (standing_opening g c (opened_at x r.past) x e))
+      (opening_goes c (opened_at x r.past) es (λ t l w. refl) (standing_opening g c (opened_at x r.past) x e)) refl refl
+      (opening_stays g c (opened_at x r.past) es refl (λ t. none_failed c some) (standing_opening g c (opened_at x r.past) x e))
 
 -- ---- a stop
 
@@ -460,7 +493,7 @@ stopped_sound : (g : Dag) (c : ConfValues) (r : Run) (cause : StopCause) → IsS
 stopped_sound g c r cause s v =
     record {
       made = (tt, s.made);
-      withdrawals = (ap (λ os. Rattle.tez_history.specs.Rules.is_owed os (Stopped cause)) s.settled, s.withdrawals);
+      withdrawals = (all_hold _ _ (ap (λ os. Rattle.tez_history.specs.Rules.is_owed os (Stopped cause)) s.settled) refl, s.withdrawals);
       settled = refl;
       unspent = (refl, s.unspent);
       starts = (starting (is_at_start r.past), s.starts);

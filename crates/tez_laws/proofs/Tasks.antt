@@ -1,13 +1,13 @@
 -- What always holds of the live attempts, the winners and the places of a made history.
 use Rattle.std.specs.Prelude.{◌≡◌, ℕ, Bool, true, false, ◌||◌, if◌then◌else◌, [], ◌∷◌, Option, Some, None, refl}
-use Rattle.std.proofs.Common.{sym, arith, subst}
+use Rattle.std.proofs.Common.{sym, ap, arith, subst}
 use Rattle.tez_ids.specs.declared.TaskId.{TaskId}
 use Rattle.tez_ids.specs.declared.AttemptId.{AttemptId}
 use Rattle.tez_events.specs.declared.Entry.TheVariants.{Opened, Over, Kept, Queued, Placed, Ordered, Succeeded, Failed, Killed, Rerun, Stopped}
 use Rattle.tez_ids.specs.Same.{same_task, same_attempt}
 use Rattle.tez_plan.specs.Dag.{Dag}
 use Rattle.tez_conf.specs.declared.values.ConfValues.{ConfValues}
-use Rattle.tez_history.specs.History.{Past, Stage, Unknown, InQueue, Waits, Runs, Ended, stage, live, winner, sent, is_scheduled}
+use Rattle.tez_history.specs.History.{Past, Stage, Unknown, InQueue, Waits, Runs, Ended, stage, live, winner, freed, sent, is_scheduled}
 use Rattle.tez_history.specs.Follows.{IsAlive, IsMade}
 use Rattle.tez_laws.specs.Laws.{OneLive}
 use Rattle.tez_laws.proofs.Same.{same_task-true, same_task-refl, same_attempt-true, same_attempt-refl}
@@ -20,6 +20,10 @@ set_task b a t l ih h = grind (arith, same_task-true)
 
 unset_task : (b a : AttemptId) (t : TaskId) (l : Option AttemptId) → (l ≡ Some a → a.task ≡ t) → (if same_task b.task t then None else l) ≡ Some a → a.task ≡ t
 unset_task b a t l ih h = grind arith
+
+freed_task : (b a : AttemptId) (t : TaskId) (w : Option AttemptId) → (w ≡ Some a → a.task ≡ t) → freed b w ≡ Some a → a.task ≡ t
+freed_task b a t None ih h = cc
+freed_task b a t (Some x) ih h = grind arith
 
 pub live_task : (past : Past) (t : TaskId) (a : AttemptId) → live t past ≡ Some a → a.task ≡ t
 live_task [] t a h = cc
@@ -39,7 +43,7 @@ winner_task (Over ∷ past) t a h = cc
 winner_task (Stopped _ ∷ past) t a h = cc
 winner_task (Kept b ∷ past) t a h = set_task b a t (winner t past) (winner_task past t a) h
 winner_task (Succeeded b ∷ past) t a h = set_task b a t (winner t past) (winner_task past t a) h
-winner_task (Rerun b ∷ past) t a h = unset_task b a t (winner t past) (winner_task past t a) h
+winner_task (Rerun b ∷ past) t a h = freed_task b a t (winner t past) (winner_task past t a) h
 winner_task (_ ∷ past) t a h = winner_task past t a h
 
 -- ---- a task that was neither kept nor queued has neither
@@ -60,9 +64,9 @@ unscheduled_done : (b : AttemptId) (t : TaskId) (s : Bool) (l w : Option Attempt
     → s ≡ false → ((if same_task b.task t then None else l) ≡ None) × ((if same_task b.task t then Some b else w) ≡ None)
 unscheduled_done b t s l w ih was h = grind arith
 
-unscheduled_rerun : (b : AttemptId) (t : TaskId) (s : Bool) (l w : Option AttemptId) → (s ≡ false → (l ≡ None) × (w ≡ None))
-    → s ≡ false → (l ≡ None) × ((if same_task b.task t then None else w) ≡ None)
-unscheduled_rerun b t s l w ih h = grind arith
+unscheduled_rerun : (b : AttemptId) (s : Bool) (l w : Option AttemptId) → (s ≡ false → (l ≡ None) × (w ≡ None))
+    → s ≡ false → (l ≡ None) × (freed b w ≡ None)
+unscheduled_rerun b s l w ih h = ((ih h).0, ap (freed b) (ih h).1)
 
 pub live_same : (past : Past) (b : AttemptId) (t : TaskId) → OneLive past → IsAlive (stage b past) → same_task b.task t ≡ true → live t past ≡ Some b
 live_same past b t one alive same = subst (λ u. live u past ≡ Some b) (same_task-true b.task t same) (one b alive)
@@ -79,7 +83,7 @@ unscheduled g c (Killed b _ ∷ past) m t h = unscheduled_ended b t (is_schedule
 unscheduled g c (Succeeded b ∷ past) m t h =
     unscheduled_done b t (is_scheduled t past) (live t past) (winner t past) (unscheduled g c past m.1 t)
     (live_same past b t (one_live g c past m.1) (running_alive (stage b past) m.0)) h
-unscheduled g c (Rerun b ∷ past) m t h = unscheduled_rerun b t (is_scheduled t past) (live t past) (winner t past) (unscheduled g c past m.1 t) h
+unscheduled g c (Rerun b ∷ past) m t h = unscheduled_rerun b (is_scheduled t past) (live t past) (winner t past) (unscheduled g c past m.1 t) h
 unscheduled g c (_ ∷ past) m t h = unscheduled g c past m.1 t h
 
 -- ---- a task with a live attempt has no winner
@@ -100,8 +104,8 @@ both_done : (b a : AttemptId) (t : TaskId) (l w : Option AttemptId) → (l ≡ S
     → (if same_task b.task t then None else l) ≡ Some a → (if same_task b.task t then Some b else w) ≡ None
 both_done b a t l w ih h = grind arith
 
-both_rerun : (b a : AttemptId) (t : TaskId) (l w : Option AttemptId) → (l ≡ Some a → w ≡ None) → l ≡ Some a → (if same_task b.task t then None else w) ≡ None
-both_rerun b a t l w ih h = grind arith
+both_rerun : (b a : AttemptId) (l w : Option AttemptId) → (l ≡ Some a → w ≡ None) → l ≡ Some a → freed b w ≡ None
+both_rerun b a l w ih h = ap (freed b) (ih h)
 
 same_none : (f : TaskId → Option AttemptId) (s t : TaskId) → f s ≡ None → same_task s t ≡ true → f t ≡ None
 same_none f s t none same = subst (λ u. f u ≡ None) (same_task-true s t same) none
@@ -116,7 +120,7 @@ no_both g c (Kept b ∷ past) m t a h = both_kept b a t (live t past) (winner t 
 no_both g c (Failed b ∷ past) m t a h = both_ended b a t (live t past) (winner t past) (no_both g c past m.1 t a) h
 no_both g c (Killed b _ ∷ past) m t a h = both_ended b a t (live t past) (winner t past) (no_both g c past m.1 t a) h
 no_both g c (Succeeded b ∷ past) m t a h = both_done b a t (live t past) (winner t past) (no_both g c past m.1 t a) h
-no_both g c (Rerun b ∷ past) m t a h = both_rerun b a t (live t past) (winner t past) (no_both g c past m.1 t a) h
+no_both g c (Rerun b ∷ past) m t a h = both_rerun b a (live t past) (winner t past) (no_both g c past m.1 t a) h
 no_both g c (_ ∷ past) m t a h = no_both g c past m.1 t a h
 
 -- ---- the live attempt is alive

@@ -14,7 +14,7 @@ use Rattle.tez_history.specs.Derived.{tasks, notices, next_attempt, places_on, i
 use Rattle.tez_history.specs.Steps.{entries_of, each_after, requeue, withdrawal, killed_by_node, kill_at, withdrawn_if, withdraw_lost, node_kills, node_withdrawals, fetch_entries, winner_behind, output_lost_entries, done_entries}
 use Rattle.tez_history.specs.Rules.{owed, rest_of, is_owed}
 use Rattle.tez_laws.specs.Laws.{OwesRight}
-use Rattle.tez_laws.proofs.Same.{same_attempt-refl}
+use Rattle.tez_laws.proofs.Same.{same_task-refl, same_attempt-refl}
 use Rattle.tez_laws.proofs.StepLaw.{AllNotices, notices_are}
 
 settled : (g : Dag) (past : Past) (es : List Entry) → OwesRight g past es → owed g (extend past es) ≡ []
@@ -36,7 +36,7 @@ free g past e h = ap (λ os. is_owed os e) h
 
 -- what is owed is paid, one notice after another
 pays : (g : Dag) (p : Past) (n : AttemptId) (es : List Entry) → AllNotices es → owed g p ≡ es ++ Queued n ∷ [] → OwesRight g p (es ++ Queued n ∷ [])
-pays g p n [] h e = (ap (λ os. is_owed os (Queued n)) e ∙ same_attempt-refl n, refl)
+pays g p n [] h e = (ap (λ os. is_owed os (Queued n)) e ∙ same_task-refl n.task, refl)
 pays g p n (InputFailed a d i w ∷ es) h e = (
   ap (λ os. is_owed os (InputFailed a d i w)) e ∙ rw (same_attempt-refl a, same_attempt-refl w, eq-eqb d.0 d.0 refl, eq-eqb i i refl) refl,
   pays g (InputFailed a d i w ∷ p) n es h (ap rest_of e),

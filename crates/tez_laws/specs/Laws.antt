@@ -7,6 +7,7 @@
 --     ConfiguredIsVertex g past  what is configured is a vertex of the plan
 --     IsKnown s                 an attempt at this stage was queued in the present epoch
 --     NextIsNew past            the next attempt of a task was not queued yet
+--     NextNeverQueued past      nor in an earlier epoch
 --     PlacesAgree c past        a place is held by exactly who stands there, and is there
 --     QueuedFetchedNone past    a queued attempt has fetched nothing
 --     Obeys rule g c past       each entry passes this test against those before it
@@ -16,23 +17,30 @@
 --     SourcesDone g v past      every vertex that feeds v has all its winners
 --     IsReady g c v past        v's manager configures, and all tasks of v are to be scheduled
 --     FewFailures c past        no task is spent
+--     TasksAreListed g past     the tasks listed are those of the configured vertices
+--     LiveIsListed, WinnerIsListed g past     a task with a live attempt, or a winner, is one of them
+--     AreInOrder ts             tasks stand in order of vertex, then index
+--     Sound g c past            what a master goes by between two steps
+--     AllFindAgreeing g c r hs  each new master finds the configurations as they stood last
 --     IsSound g c r             what holds of a run after each happening
-use Rattle.std.specs.Prelude.{◌≡◌, ◌↔◌, ℕ, suc, ◌<◌, nat_lt, nat_le, not, ◌||◌, ⊤, Bool, true, false, List, [], ◌∷◌, Option, Some, None, is_some}
+use Rattle.std.specs.Prelude.{◌≡◌, ◌↔◌, ℕ, suc, ◌<◌, ◌==◌, nat_lt, nat_le, not, ◌&&◌, ◌||◌, ⊤, IsTrue, Bool, true, false, List, [], ◌∷◌, Option, Some, None, is_none, is_some}
 use Rattle.tez_ids.specs.declared.TaskId.{TaskId}
 use Rattle.tez_ids.specs.declared.AttemptId.{AttemptId}
+use Rattle.tez_vman.specs.declared.seen.Config.{Config}
+use Rattle.tez_ids.specs.Same.{same_attempt}
 use Rattle.tez_lists.specs.Numbers.{In}
 use Rattle.tez_plan.specs.Dag.{Dag, from}
 use Rattle.tez_conf.specs.declared.values.ConfValues.{ConfValues}
 use Rattle.tez_events.specs.declared.Entry.{Entry}
-use Rattle.tez_events.specs.declared.Entry.TheVariants.{Configured, Queued, Fetched}
+use Rattle.tez_events.specs.declared.Entry.TheVariants.{Stands, Configured, Queued}
 use Rattle.tez_events.specs.declared.CoreEvent.{CoreEvent}
 use Rattle.tez_events.specs.declared.CoreEvent.TheVariants.{Open, Configure, Queue, Place, Fetch, Send, Preempt, Fail, LoseNode, LoseOutput, Restart, Ready, CommitStart, Publish, Finish, Purge}
 use Rattle.tez_history.specs.Shape.{is_vertex, places, Edge, primary_edges}
-use Rattle.tez_history.specs.History.{Past, Stage, Unknown, InQueue, Waits, Runs, Ended, stage, live, winner, holder, failures, is_scheduled, is_fetched}
-use Rattle.tez_history.specs.Derived.{next_attempt, is_task, Input, inputs, source_of_input, task_count, is_vertex_done, is_configured, configures, to_schedule}
-use Rattle.tez_history.specs.Rules.{configs_right, fetches_right, withdrawals_right, owed, is_owed, is_at_start, is_start}
+use Rattle.tez_history.specs.History.{Past, Stage, Unknown, InQueue, Waits, Runs, Ended, stage, live, winner, holder, config, failures, is_scheduled, is_fetched}
+use Rattle.tez_history.specs.Derived.{next_attempt, tasks, is_task, Input, inputs, source_of_input, task_count, is_vertex_done, is_configured, configures, to_schedule}
+use Rattle.tez_history.specs.Rules.{configs_right, agrees, last_config, withdrawals_right, owed, is_owed, is_at_start, is_start}
 use Rattle.tez_history.specs.Follows.{IsAlive, IsMade}
-use Rattle.tez_history.specs.Runs.{Run, IsBetween}
+use Rattle.tez_history.specs.Runs.{Run, Unfinished, AllDone, Begun, Happening, Event, Report, Stop, Start, happens, IsBetween}
 
 -- ---- attempts
 
@@ -67,6 +75,15 @@ IsKnown Ended = ⊤
 abbrev pub NextIsNew : Past → Type 0
 NextIsNew past = (t : TaskId) → IsKnown (stage (next_attempt past t) past) → ⊥
 
+-- whether an attempt was queued anywhere in the history
+abbrev pub was_ever_queued : AttemptId → Past → Bool
+was_ever_queued a [] = false
+was_ever_queued a (Queued b ∷ past) = same_attempt b a || was_ever_queued a past
+was_ever_queued a (_ ∷ past) = was_ever_queued a past
+
+abbrev pub NextNeverQueued : Past → Type 0
+NextNeverQueued past = (t : TaskId) → was_ever_queued (next_attempt past t) past ≡ false
+
 -- ---- places
 
 -- the place where an attempt stands
@@ -89,14 +106,15 @@ abbrev pub Obeys : (Dag → ConfValues → Past → Entry → Bool) → Dag → 
 Obeys rule g c [] = ⊤
 Obeys rule g c (e ∷ past) = (rule g c past e ≡ true) × Obeys rule g c past
 
--- of the rule of configurations what needs no journal; of the rule of fetches what stands at the fetch
+-- of the rule of configurations what needs no journal, and the rest: what stands is what stood last
 abbrev pub configured_right : Dag → ConfValues → Past → Entry → Bool
 configured_right g c past (Configured v tasks base) = configs_right g c past (Configured v tasks base)
+configured_right g c past (Stands v tasks base) = is_vertex g v.0 && is_none (config v.0 past)
 configured_right g c past _ = true
 
-abbrev pub fetched_right : Dag → ConfValues → Past → Entry → Bool
-fetched_right g c past (Fetched a e i w) = fetches_right g c past (Fetched a e i w)
-fetched_right g c past _ = true
+abbrev pub stands_again : Dag → ConfValues → Past → Entry → Bool
+stands_again g c past (Stands v tasks base) = agrees tasks base (last_config v.0 false past)
+stands_again g c past _ = true
 
 -- a spent task is not queued
 abbrev pub spent_right : Dag → ConfValues → Past → Entry → Bool
@@ -148,6 +166,50 @@ SpendsNot c past Purge = ⊤
 
 abbrev pub FewFailures : ConfValues → Past → Type 0
 FewFailures c past = (t : TaskId) → failures t past < c.max_failed
+
+-- ---- what a master goes by
+
+abbrev pub TasksAreListed : Dag → Past → Type 0
+TasksAreListed g past = (t : TaskId) → In t (tasks g past) ↔ (is_task g past t ≡ true)
+
+abbrev pub LiveIsListed : Dag → Past → Type 0
+LiveIsListed g past = (t : TaskId) (a : AttemptId) → live t past ≡ Some a → In t (tasks g past)
+
+abbrev pub WinnerIsListed : Dag → Past → Type 0
+WinnerIsListed g past = (t : TaskId) (a : AttemptId) → winner t past ≡ Some a → In t (tasks g past)
+
+abbrev pub comes_before : TaskId → TaskId → Bool
+comes_before s t = nat_lt s.vertex.0 t.vertex.0 || (s.vertex.0 == t.vertex.0 && nat_lt s.index t.index)
+
+abbrev pub AreInOrder : List TaskId → Type 0
+AreInOrder [] = ⊤
+AreInOrder (t ∷ ts) = ((s : TaskId) → In s ts → comes_before t s ≡ true) × AreInOrder ts
+
+-- the one premise of a step: what holds between two steps of a run that has not ended
+pub record Sound (g : Dag) (c : ConfValues) (past : Past) : Type 0 where
+  pub made : IsMade g c past
+  pub settled : owed g past ≡ []
+  pub goes_on : GoesOn past
+  pub few : FewFailures c past
+  pub live_listed : LiveIsListed g past
+  pub winner_listed : WinnerIsListed g past
+  pub in_order : AreInOrder (tasks g past)
+  pub inside : InputsLeadInside g past
+
+-- ---- runs
+
+-- what a new master finds of each vertex agrees with how it stood last
+abbrev pub FindsAgreeing : Past → Happening → Type 0
+FindsAgreeing past (Start (Unfinished s)) = (x : ℕ × Config) → In x s.configured → IsTrue (agrees x.1.tasks x.1.base (last_config x.0 false past))
+FindsAgreeing past (Start AllDone) = ⊤
+FindsAgreeing past (Start Begun) = ⊤
+FindsAgreeing past (Event e) = ⊤
+FindsAgreeing past (Report a made) = ⊤
+FindsAgreeing past (Stop cause) = ⊤
+
+abbrev pub AllFindAgreeing : Dag → ConfValues → Run → List Happening → Type 0
+AllFindAgreeing g c r [] = ⊤
+AllFindAgreeing g c r (h ∷ hs) = FindsAgreeing r.past h × AllFindAgreeing g c (happens g c r h) hs
 
 -- the last three as long as the run has not ended
 pub record IsSound (g : Dag) (c : ConfValues) (r : Run) : Type 0 where

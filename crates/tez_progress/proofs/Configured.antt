@@ -103,7 +103,7 @@ of_feeder g past v u s f h =
 pub fits_next : (g : Dag) (c : ConfValues) (past : Past) (e : Entry) → IsInRanges g → IsValid g → MayFollow g c past e → is_stands e ≡ false → IsFitted g past → IsFitted g (e ∷ past)
 fits_next g c past (Opened n) ranges valid m s fits = fits_none g (λ v. config v (Opened n ∷ past)) (λ v. refl)
 fits_next g c past Over ranges valid m s fits = fits_none g (λ v. config v (Over ∷ past)) (λ v. refl)
-fits_next g c past (Stopped cause) ranges valid m s fits = fits_none g (λ v. config v (Stopped cause ∷ past)) (λ v. refl)
+fits_next g c past (Stopped cause) ranges valid m s fits = fits
 fits_next g c past (Stands w n b) ranges valid m s fits = cc
 fits_next g c past (Configured w n b) ranges valid m s fits =
     let below = vertex_below g w.0 m.2 in

@@ -8,17 +8,15 @@ use Rattle.tez_plan.specs.Dag.{Dag, edge}
 use Rattle.tez_plan.specs.Faults.{IsValid}
 use Rattle.tez_plan.specs.Ranges.{IsInRanges}
 use Rattle.tez_conf.specs.declared.values.ConfValues.{ConfValues}
-use Rattle.tez_events.specs.declared.StopCause.{StopCause}
-use Rattle.tez_events.specs.declared.StopCause.TheVariants.{Script}
 use Rattle.tez_events.specs.declared.Entry.{Entry}
-use Rattle.tez_events.specs.declared.Entry.TheVariants.{Over, Fetched, ReadError, InputFailed, Made, Failed, NodeLost, Stopped}
+use Rattle.tez_events.specs.declared.Entry.TheVariants.{Over, Fetched, ReadError, InputFailed, Made, Failed, NodeLost}
 use Rattle.tez_events.specs.declared.CoreEvent.{CoreEvent}
 use Rattle.tez_events.specs.declared.CoreEvent.TheVariants.{Open, Configure, Queue, Place, Fetch, Send, Preempt, Fail, LoseNode, LoseOutput, Restart, Ready, CommitStart, Publish, Finish, Purge}
 use Rattle.tez_history.specs.History.{Past, config, extend, stage, holder, winner, life, failures, is_up, is_committing}
 use Rattle.tez_history.specs.Derived.{tasks, is_processing, notices, places_on, is_on_node, is_on_shelf}
 use Rattle.tez_history.specs.Steps.{enabled, entries_of, each_after, requeue, withdrawal, killed_by_node, kill_at, withdrawn_if, withdraw_lost, node_kills, node_withdrawals, fetch_entries, winner_behind, output_lost_entries, done_entries}
 use Rattle.tez_history.specs.Follows.{IsMade}
-use Rattle.tez_history.specs.Runs.{Run, Found, Unfinished, AllDone, Begun, Happening, Event, Report, Stop, Start, spent_in, opened_unless, opened_by, going_on, stopped, took, happens_to, happens, run, not_begun}
+use Rattle.tez_history.specs.Runs.{Run, Found, Unfinished, AllDone, Begun, Happening, Event, Report, Stop, Start, spent_in, opened_unless, opened_by, going_on, took, happens_to, happens, run, not_begun}
 use Rattle.tez_laws.specs.Laws.{IsSound}
 use Rattle.tez_laws.proofs.StepLaw.{event_may, done_may, AllNotices, notices_are, both}
 use Rattle.tez_laws.proofs.RunLaw.{run_sound}
@@ -128,11 +126,8 @@ module _ (g : Dag) (c : ConfValues) (ranges : IsInRanges g) (valid : IsValid g) 
   unfolding none_found
   event_fits past e made h fits = fits_extend g c past (entries_of g c past e) ranges valid (event_may g c past e made h) (found_event g c past e) fits
 
-  stopped_fits : (r : Run) (cause : StopCause) → IsFitted g (stopped c r cause).past
-  stopped_fits r cause = fits_none g (λ v. config v (Stopped cause ∷ r.past)) (λ v. refl)
-
   took_fits : (r : Run) (e : CoreEvent) → IsMade g c r.past → enabled g c r.past e ≡ true → IsFitted g r.past → IsFitted g (took g c r e).past
-  took_fits r Restart made h fits = stopped_fits r Script
+  took_fits r Restart made h fits = fits
   took_fits r Open made h fits = fits
   took_fits r e made h fits = event_fits r.past e made h fits
 
@@ -154,7 +149,7 @@ module _ (g : Dag) (c : ConfValues) (ranges : IsInRanges g) (valid : IsValid g) 
     by : (b : Bool) → (is_up r.past && is_processing (stage a r.past)) ≡ b → IsFitted g (if b then going_on r.past (done_entries a made_bytes) else r).past
     by true h = fits_extend g c r.past (done_entries a made_bytes) ranges valid (done_may g c r.past a made_bytes (both {x = is_up r.past} h).1) (found_made a made_bytes) fits
     by false h = fits
-  happens_to_fits r (Stop cause) made finds fits = stopped_fits r cause
+  happens_to_fits r (Stop cause) made finds fits = fits
   happens_to_fits r (Start found) made finds fits = by (not (is_up r.past)) where
     by : (b : Bool) → IsFitted g (if b then opened_by g c r found else r).past
     by true = opened_fits r found finds fits

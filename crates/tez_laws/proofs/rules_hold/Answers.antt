@@ -1,4 +1,5 @@
-use Rattle.tez_laws.proofs.Obeying.{places_obeyed, commit_obeyed, configs_obeyed, fetches_obeyed}
+use Rattle.tez_laws.proofs.Obeying.{places_obeyed, commit_obeyed, configs_obeyed}
+use Rattle.tez_laws.proofs.Fetches.{fetches_obeyed}
 use Rattle.tez_laws.proofs.Queues.{queues_obeyed}
 use Rattle.tez_laws.proofs.rules_hold.Goals as goal
 
