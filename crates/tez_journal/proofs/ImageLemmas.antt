@@ -7,7 +7,7 @@ use Rattle.std.proofs.lemmas.List.{take-append-drop}
 use Rattle.tez_events.specs.declared.JournalRecord.{JournalRecord}
 use Rattle.tez_events.specs.Body.{body, FitsRecord}
 use Rattle.tez_journal.specs.Text.{framed, entry, entries, IsGated}
-use Rattle.tez_journal.specs.Image.{IsTorn}
+use Rattle.tez_ports.specs.Image.{IsTorn}
 use Rattle.tez_journal.proofs.TextLemmas.{entries_more, fits_more}
 
 pub behind : (old new : List ℕ) (rs : List JournalRecord) (n : ℕ) → IsGated old rs → IsTorn (length (entries rs) + 1) n old new → IsGated new rs

@@ -6,7 +6,7 @@ ghost use Rattle.std.specs.Prelude.{◌≡◌, ◌⊎◌, ◌+◌, ◌++◌, ◌
 ghost use Rattle.tez_events.specs.declared.JournalRecord.{JournalRecord};
 ghost use Rattle.tez_events.specs.Body.{body, FitsRecord};
 ghost use Rattle.tez_journal.specs.Text.{entries, framed, IsGated, IsText};
-ghost use Rattle.tez_journal.specs.Image.{IsTorn};
+ghost use Rattle.tez_ports.specs.Image.{IsTorn};
 
 #[cfg(test)]
 mod tests;

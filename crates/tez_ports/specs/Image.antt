@@ -1,5 +1,5 @@
 -- What a disk holds, and what a cut of the power leaves of it.
-use Rattle.std.specs.Prelude.{◌≡◌, ◌×◌, ◌⊎◌, ℕ, ◌+◌, ◌≤◌, ◌<◌, ◌^◌, max, List, [], ◌∷◌, ◌++◌, length, take, drop, slice_get, Option, option_map}
+use Rattle.std.specs.Prelude.{◌≡◌, ◌⊎◌, ℕ, ◌+◌, ◌≤◌, ◌<◌, ◌^◌, max, List, [], ◌∷◌, ◌++◌, length, take, drop, slice_get, Option, option_map}
 use Rattle.std.specs.List.{AllByRecursion}
 use Rattle.tez_ports.specs.Content.{Told}
 
