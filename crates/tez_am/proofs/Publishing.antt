@@ -6,6 +6,7 @@ use Rattle.tez_ports.specs.Causes.{Rose, DeviceHasCause}
 use Rattle.tez_ports.specs.declared.faults.DeviceStop.{DeviceStop}
 use Rattle.tez_ports.specs.declared.faults.DeviceStop.TheVariants.{Failed, Stopped}
 use Rattle.tez_ports.specs.Content.{Named, Store, Told, IsEither, bytes_of, without, put, readies, publishes}
+use Rattle.tez_ports.proofs.ContentLemmas.{put_found, same_bytes}
 use Rattle.tez_am.specs.Call.{Stored}
 use Rattle.tez_plan.specs.Dag.{Dag}
 use Rattle.tez_meaning.specs.Jobs.{Job}
@@ -16,18 +17,6 @@ use Rattle.tez_am.specs.Run.{TakenCause}
 use Rattle.tez_am.specs.declared.status.Device.TheVariants as device
 use Rattle.tez_am.specs.declared.status.Status.{Status}
 use Rattle.tez_am.specs.declared.status.Status.TheVariants.{SinkExists, DeviceFault, NoMemory}
-
-same_bytes : (name : List ℕ) → bytes_eq name name ≡ true
-same_bytes name = (bytes_eq-Decides name name).1 refl
-
--- what is put under a name is found there
-put_found : (name bytes : List ℕ) (entries : Named) → bytes_of name (put name bytes entries) ≡ Some bytes
-put_found name bytes [] = rw (same_bytes name)
-put_found name bytes (e ∷ es) = by (bytes_eq e.0 name) refl (put_found name bytes es) where
-  by : (b : Bool) → bytes_eq e.0 name ≡ b → bytes_of name (put name bytes es) ≡ Some bytes
-      → bytes_of name (cond (not b) (e ∷ without name es) (without name es) ++ (name, bytes) ∷ []) ≡ Some bytes
-  by true is rest = rest
-  by false is rest = rw is rest
 
 -- a sink that is readied and then published
 pub published_after : (name bytes : List ℕ) (old mid new : Option Store) → mid ≡ option_map (readies name bytes) old → new ≡ option_map (publishes name) mid

@@ -15,6 +15,7 @@ use Rattle.tez_record.specs.Bag.{sort, text}
 use Rattle.tez_record.proofs.LineLemmas.{lines-text}
 use Rattle.tez_ports.specs.declared.faults.StoreFault.{StoreFault}
 use Rattle.tez_ports.specs.Content.{Named, Staged, Store, bytes_of, without, put, publishes, staged_at}
+use Rattle.tez_ports.proofs.ContentLemmas.{put_found}
 use Rattle.tez_commit.specs.Merge.{AreStaged, staged_bytes, staged_records, merged, prepares}
 
 all_append : {X : Type 0} (P : X → Type 0) (xs ys : List X) → AllByRecursion P xs → AllByRecursion P ys → AllByRecursion P (xs ++ ys)
@@ -43,18 +44,6 @@ not_staged_at staged (w ∷ ws) (suc i) d b none all = not_staged_at staged ws i
 -- a fault that is handed on
 pub same_fault : {T U : Type 0} (fault e : StoreFault) → IsErrOf {T = T} (Err fault) e → IsErrOf {T = U} (Err fault) e
 same_fault fault e h = let same : fault ≡ e = cc in ap Err same
-
--- what is put under a name is found there
-same_bytes : (name : List ℕ) → bytes_eq name name ≡ true
-same_bytes name = (bytes_eq-Decides name name).1 refl
-
-put_found : (name bytes : List ℕ) (entries : Named) → bytes_of name (put name bytes entries) ≡ Some bytes
-put_found name bytes [] = rw (same_bytes name)
-put_found name bytes (e ∷ es) = by (bytes_eq e.0 name) refl (put_found name bytes es) where
-  by : (b : Bool) → bytes_eq e.0 name ≡ b → bytes_of name (put name bytes es) ≡ Some bytes
-      → bytes_of name (cond (not b) (e ∷ without name es) (without name es) ++ (name, bytes) ∷ []) ≡ Some bytes
-  by true is rest = rest
-  by false is rest = rw is rest
 
 pub published_last : (winners : List AttemptId) (name : List ℕ) (s : Store) → (publishes name (prepares winners name s)).publications ≡ s.publications ++ (name, text (merged s.staged winners)) ∷ []
 published_last winners name s = rw (put_found name (text (merged s.staged winners)) s.readied)
