@@ -4,9 +4,8 @@
 --     same_fault                       a fault that is handed on
 --     published_last                   a name that is readied, then published
 --     values_merged                    staged texts of records
-use Rattle.std.proofs.Common.{◌≡◌, ℕ, zero, suc, ◌+◌, ◌<◌, ◌++◌, List, [], ◌∷◌, length, Bool, true, false, cond, not, take, get_or, Some, None, is_some, unwrap_or, IsSome, Err, IsErrOf, refl, sym, ap, ◌∙◌, flat_map, bytes_eq, arith}
+use Rattle.std.proofs.Common.{◌≡◌, ℕ, zero, suc, ◌+◌, ◌<◌, ◌++◌, List, [], ◌∷◌, length, true, take, get_or, Some, None, is_some, unwrap_or, IsSome, Err, IsErrOf, refl, sym, ap, ◌∙◌, flat_map, arith}
 use Rattle.std.specs.List.{AllByRecursion}
-use Rattle.std.proofs.lemmas.Slice.Eq.{bytes_eq-Decides}
 use Rattle.std.proofs.lemmas.List.{take_more}
 use Rattle.tez_ids.specs.declared.AttemptId.{AttemptId}
 use Rattle.tez_lists.proofs.Flat.{append-nil, flat-append}
@@ -14,7 +13,7 @@ use Rattle.tez_record.specs.Line.{lines, IsRecord}
 use Rattle.tez_record.specs.Bag.{sort, text}
 use Rattle.tez_record.proofs.LineLemmas.{lines-text}
 use Rattle.tez_ports.specs.declared.faults.StoreFault.{StoreFault}
-use Rattle.tez_ports.specs.Content.{Named, Staged, Store, bytes_of, without, put, publishes, staged_at}
+use Rattle.tez_ports.specs.Content.{Staged, Store, publishes, staged_at}
 use Rattle.tez_ports.proofs.ContentLemmas.{put_found}
 use Rattle.tez_commit.specs.Merge.{AreStaged, staged_bytes, staged_records, merged, prepares}
 

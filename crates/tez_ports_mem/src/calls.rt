@@ -58,11 +58,27 @@ impl Calls {
         }
     }
 
+    /// Counts a call that fails whatever the lists say.
+    pub(crate) fn fault_at_call(&mut self)
+        ensures counted { Rose self.old.count self.new.count }
+        ensures rose { Rose self.old.faults self.new.faults }
+        ensures later { self.old.faults ≤ self.new.faults }
+        ensures stops { self.new.stops ≡ self.old.stops }
+        ensures fail { self.new.fail.items ≡ self.old.fail.items }
+        ensures stop { self.new.stop.items ≡ self.old.stop.items }
+    {
+        self.count = self.count.saturating_add(1);
+        self.fault();
+    }
+
     /// Counts a fault that the lists do not name.
     pub(crate) fn fault(&mut self)
         ensures rose { Rose self.old.faults self.new.faults }
         ensures later { self.old.faults ≤ self.new.faults }
         ensures stops { self.new.stops ≡ self.old.stops }
+        ensures count { self.new.count ≡ self.old.count }
+        ensures fail { self.new.fail.items ≡ self.old.fail.items }
+        ensures stop { self.new.stop.items ≡ self.old.stop.items }
     {
         self.faults = self.faults.saturating_add(1);
     }

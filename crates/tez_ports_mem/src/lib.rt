@@ -10,23 +10,30 @@
 
 mod calls;
 mod contents;
+mod disk;
 mod files;
 mod gate;
 mod named;
 mod out;
 mod pair_gate;
+mod picker;
+mod platter;
 mod room;
 mod staged;
 mod store;
+mod sure_disk;
 mod sure_files;
 mod sure_out;
 mod sure_store;
 
+pub use disk::MemDisk;
 pub use files::MemFiles;
 pub use gate::OpenGate;
 pub use out::MemOut;
 pub use pair_gate::PairGate;
+pub use picker::Picker;
 pub use store::MemStore;
+pub use sure_disk::SureDisk;
 pub use sure_files::SureFiles;
 pub use sure_out::SureOut;
 pub use sure_store::SureStore;

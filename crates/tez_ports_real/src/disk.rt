@@ -35,6 +35,8 @@ impl NoDisk {
 }
 
 impl JournalDisk for NoDisk {
+    ghost disk = { λ _. None };
+
     ghost faults = { λ s. s.faults };
 
     ghost stops = { λ _. 0 };
