@@ -1,14 +1,14 @@
 // Whole calls over devices in memory.
-ghost use Rattle.std.specs.Prelude.{ℕ};
-
 use crate::{Status, am_run, am_tool, exit_code};
-use std::alloc::{AllocError, Global};
+use std::alloc::Global;
 use std::process::Abort;
 use std::test::Fail;
 use tez_events::Trace;
 use tez_ids::{Bytes, Name};
-use tez_ports::{DeviceStop, InputFiles, JournalDisk, OutputStore, TextOut};
-use tez_ports_mem::{MemFiles, MemOut, MemStore, OpenGate, SureFiles, SureOut, SureStore};
+use tez_ports::{InputFiles, OutputStore, TextOut};
+use tez_ports_mem::{
+    MemFiles, MemOut, MemStore, OpenGate, Picker, SureDisk, SureFiles, SureOut, SureStore,
+};
 
 const ONE: &str =
     "{\"name\":\"one\",\"vertices\":[{\"name\":\"only\",\"tasks\":1,\"source\":\"in.txt\",\"head\":{\"op\":\"each\"},\"steps\":[{\"op\":\"filter\",\"field\":0,\"test\":\"contains\",\"value\":\"b\"}],\"sink\":\"kept\"}]}";
@@ -33,48 +33,6 @@ const AGAIN: &str =
 
 const USAGE: &str =
     "usage: tez run or resume DAG [--script FILE] [--trace], drill SEED LINES, check DAG, meaning DAG, audit DAG TRACE, generate SEED LINES\n";
-
-/// A disk that is never called.
-#[derive(Drop)]
-struct NoDisk {
-    spare: u64,
-    faults: u64,
-}
-
-impl JournalDisk for NoDisk {
-    ghost faults = { λ s. s.faults };
-
-    ghost stops = { λ _. 0 };
-
-    ghost spare = { λ s. s.spare };
-
-    fn size(&mut self) -> Result<u64, DeviceStop> {
-        self.faults = self.faults.saturating_add(1);
-        Err(DeviceStop::Failed)
-    }
-
-    fn read_at(&mut self, _start: u64, _into: &mut [u8]) -> Result<(), DeviceStop> {
-        self.faults = self.faults.saturating_add(1);
-        Err(DeviceStop::Failed)
-    }
-
-    fn reserve(&mut self, units: u64) -> Result<(), AllocError> {
-        self.spare = self.spare.max(units);
-        Ok(())
-    }
-
-    fn write_at(&mut self, _start: u64, _bytes: &[u8]) -> Result<(), DeviceStop> {
-        self.faults = self.faults.saturating_add(1);
-        Err(DeviceStop::Failed)
-    }
-
-    fn sync(&mut self) -> Result<(), DeviceStop> {
-        self.faults = self.faults.saturating_add(1);
-        Err(DeviceStop::Failed)
-    }
-
-    fn power_cut(&mut self) {}
-}
 
 fn entries(alloc: Global, dag: &[u8], source: Option<&[u8]>) -> Result<Vec<(Name, Bytes)>, Fail> {
     let mut entries = Vec::new(alloc);
@@ -103,10 +61,7 @@ fn call(
     for word in words {
         list.push(String::from_str(alloc, word)?)?;
     }
-    let mut disk = NoDisk {
-        spare: 0,
-        faults: 0,
-    };
+    let mut disk = SureDisk::new(Vec::new(alloc), Picker::Keep, alloc);
     if let Some(status) = am_tool(alloc, &list, files, out) {
         return Ok(status);
     }

@@ -61,7 +61,7 @@ pub fn am_run<F: InputFiles, S: OutputStore, D: JournalDisk, O: TextOut, G: Gate
     ensures sure_files { F.is_sure files.old → (n : List ℕ) → result ≢ Status.InputFault n }
     ensures sure_store { S.is_sure store.old → result ≢ Status.DeviceFault Device.Store }
     ensures sure_out { O.is_sure out.old → result ≢ Status.OutFault }
-    ensures disk { (D.faults _disk.new ≡ D.faults _disk.old) × (D.stops _disk.new ≡ D.stops _disk.old) × (D.spare _disk.new ≡ D.spare _disk.old) }
+    ensures disk { (D.disk _disk.new ≡ D.disk _disk.old) × (D.faults _disk.new ≡ D.faults _disk.old) × (D.stops _disk.new ≡ D.stops _disk.old) × (D.spare _disk.new ≡ D.spare _disk.old) }
     ensures log { _log.new ≡ _log.old }
 {
     let Some(word) = dag_file(words) else {

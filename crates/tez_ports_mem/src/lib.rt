@@ -1,10 +1,11 @@
 //! Devices in memory, for tests and for what never fails.
 //!
-//! `MemFiles`, `MemStore` and `MemOut` take lists of the calls that are to fail or to be stopped, numbered
-//! from 1. A failed call takes no effect; a stopped call takes effect where there is memory for it, as
-//! when the answer is lost. A number in both lists fails. `SureFiles`, `SureStore` and `SureOut` never fail
-//! nor stop, but for a name that is not readied or an attempt that is not staged.
-//! All of them tell what they hold. Of the gates `OpenGate` holds nobody, and at `PairGate` two
+//! `MemFiles`, `MemDisk`, `MemStore` and `MemOut` take lists of the calls that are to fail or to be
+//! stopped, numbered from 1. A failed call takes no effect; a stopped call takes effect where there is
+//! memory for it, as when the answer is lost, but for a sync. A number in both lists fails. `SureFiles`,
+//! `SureDisk`, `SureStore` and `SureOut` never fail nor stop, but for a name that is not readied, an
+//! attempt that is not staged or a disk that is full. Of a disk a `Picker` says what a cut of the power
+//! leaves. All of them tell what they hold. Of the gates `OpenGate` holds nobody, and at `PairGate` two
 //! attempts meet.
 #![tactic(auto)]
 
@@ -38,5 +39,7 @@ pub use sure_files::SureFiles;
 pub use sure_out::SureOut;
 pub use sure_store::SureStore;
 
+#[cfg(test)]
+mod disk_tests;
 #[cfg(test)]
 mod tests;

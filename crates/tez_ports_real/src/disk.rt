@@ -1,5 +1,6 @@
 //! The disk of a run that keeps no journal.
-ghost use Rattle.std.specs.Prelude.{◌≡◌, ◌≤◌, ℕ};
+ghost use Rattle.std.specs.Prelude.{◌≡◌, ◌≤◌, ℕ, None};
+ghost use Rattle.std.proofs.lemmas.Option.{none-some};
 ghost use Rattle.tez_ports.specs.Causes.{Rose};
 
 use std::alloc::AllocError;
@@ -43,6 +44,8 @@ impl JournalDisk for NoDisk {
 
     ghost spare = { λ s. s.spare };
 
+    ghost is_sure = { λ _. ⊥ };
+
     fn size(&mut self) -> Result<u64, DeviceStop> {
         Err(self.refuse())
     }
@@ -65,4 +68,8 @@ impl JournalDisk for NoDisk {
     }
 
     fn power_cut(&mut self) {}
+
+    ghost sound = { λ s d told. absurd (none-some d told) };
+
+    ghost sure_tells = { λ s h. absurd h };
 }

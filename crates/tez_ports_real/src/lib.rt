@@ -1,10 +1,12 @@
-//! The real devices: files of the working folder, the folder of outputs, standard output.
+//! The real devices: files of the working folder, the journal's file, the folder of outputs, standard
+//! output.
 //!
 //! They tell nothing of what they hold, since no contract can say what a file or a pipe has. Each counts
 //! a fault at each error. They are thin, so that little has to be trusted.
 #![tactic(auto)]
 
 mod disk;
+mod file_disk;
 mod files;
 mod folder;
 mod gate;
@@ -12,6 +14,7 @@ mod out;
 mod store;
 
 pub use disk::NoDisk;
+pub use file_disk::FileDisk;
 pub use files::FolderFiles;
 pub use gate::QuietGate;
 pub use out::StdOut;

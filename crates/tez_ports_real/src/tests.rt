@@ -1,4 +1,4 @@
-use crate::{FolderFiles, FolderStore, NoDisk, QuietGate, StdOut};
+use crate::{FileDisk, FolderFiles, FolderStore, NoDisk, QuietGate, StdOut};
 use std::fs;
 use std::test::Fail;
 use tez_ids::{AttemptId, Epoch, TaskId, VertexId};
@@ -122,5 +122,29 @@ fn refuses_a_journal(rt: HostRuntime) -> Result<(), Fail> {
     let mut out = StdOut::new(&rt);
     assert_eq!(rt; out.write(b"written\n"), Ok(()));
     QuietGate {}.enter(attempt(0));
+    Ok(())
+}
+
+#[test]
+fn keeps_the_file_of_the_journal(rt: HostRuntime) -> Result<(), Fail> {
+    fs::write(&rt, "tez.journal", "old")?;
+    let mut disk = FileDisk::new(&rt);
+    disk.reserve(3)?;
+    assert_eq!(rt; disk.size(), Ok(3));
+    assert_eq!(rt; disk.write_at(3, b"new"), Ok(()));
+    assert_eq!(rt; disk.write_at(1, b"-"), Ok(()));
+    assert_eq!(rt; disk.sync(), Ok(()));
+    disk.power_cut();
+    let mut into = [0u8; 5];
+    let mut later = FileDisk::new(&rt);
+    assert_eq!(rt; later.read_at(1, &mut into), Ok(()));
+    assert_eq!(rt; into.as_slice(), b"-dnew".as_slice());
+    assert_eq!(rt; later.size(), Ok(6));
+    assert_eq!(rt; later.read_at(2, &mut into), Err(DeviceStop::Failed));
+    assert_eq!(rt; later.write_at(u64::MAX, b""), Err(DeviceStop::Failed));
+    assert_eq!(rt; fs::read_to_string(&rt, "tez.journal")?.as_str(), "o-dnew");
+    fs::remove_file(&rt, "tez.journal")?;
+    assert_eq!(rt; FileDisk::new(&rt).sync(), Ok(()));
+    assert_eq!(rt; fs::read_to_string(&rt, "tez.journal")?.as_str(), "");
     Ok(())
 }
