@@ -1,3 +1,6 @@
 mod EntryLemmas
 mod TextLemmas
 mod ImageLemmas
+mod Telling
+mod CrashLemmas
+mod OpenLemmas

@@ -83,7 +83,7 @@ gated_one bytes (p ∷ ps) (q ∷ qs) g h =
     ap (λ r. r ∷ ps) here ∙ ap (λ rs. q ∷ rs) rest
 
 -- a text of one byte has no entry
-small : (bytes : List ℕ) (rs : List JournalRecord) → length bytes ≤ 1 → IsGated bytes rs → rs ≡ []
+pub small : (bytes : List ℕ) (rs : List JournalRecord) → length bytes ≤ 1 → IsGated bytes rs → rs ≡ []
 small bytes [] l g = refl
 small bytes (r ∷ rs) l g =
     let whole = ap length (g.whole ∙ append_assoc (entry r) (entries rs) (g.gate ∷ g.rest)) in

@@ -8,10 +8,15 @@ ghost use Rattle.tez_events.specs.Body.{body, FitsRecord};
 ghost use Rattle.tez_journal.specs.Text.{entries, framed, IsGated, IsText};
 ghost use Rattle.tez_ports.specs.Image.{IsTorn};
 
+mod fault;
+mod journal;
+mod opening;
 #[cfg(test)]
 mod tests;
 mod text;
 
+pub use fault::JournalFault;
+pub use journal::Journal;
 pub use text::{Entry, Text, read_text};
 
 /// A text is a journal of one list of records at most.
@@ -24,10 +29,10 @@ pub fn images_behind_the_gate()
     ensures { (old new : List ℕ) (rs : List JournalRecord) (n : ℕ) → IsGated old rs → IsTorn (length (entries rs) + 1) n old new → IsGated new rs }
 {}
 
-/// While the gate of an entry is opened, with a gate behind it that is not open, each image is a
-/// journal of the records with or without that of the entry.
+/// While the gate of an entry is opened, with a closed gate behind it, each image is a journal of the
+/// records with or without that of the entry.
 pub fn images_at_the_gate()
-    ensures { (old new more : List ℕ) (rs : List JournalRecord) (r : JournalRecord) → IsGated old rs → FitsRecord r
-        → old ≡ entries rs ++ 0 ∷ (framed (body r) ++ 0 ∷ more) → IsTorn (length (entries rs)) 1 old new
+    ensures { (old new more : List ℕ) (rs : List JournalRecord) (r : JournalRecord) (gate : ℕ) → IsGated old rs → FitsRecord r
+        → old ≡ entries rs ++ gate ∷ (framed (body r) ++ 0 ∷ more) → IsTorn (length (entries rs)) 1 old new
         → IsGated new rs ⊎ IsGated new (rs ++ r ∷ []) }
 {}

@@ -1,0 +1,13 @@
+use Rattle.tez_ports.specs.Image.{Disk}
+use Rattle.tez_journal.specs.Crash.{EndsAt, IsSafe}
+use Rattle.tez_journal.proofs.Telling.{told_same}
+use Rattle.tez_journal.proofs.journal.Journal.reserve.Goals as goal
+
+pub returns-clause-holds : goal.returns-clause-holds
+returns-clause-holds g c = λ rs h. record {
+  small = h.small;
+  read = told_same _ _ (λ (d : Disk). EndsAt c.args.self.now.gate rs d.read) c.reserve-2.ensures.same h.read;
+}
+
+pub returns-clause-survives : goal.returns-clause-survives
+returns-clause-survives g c = λ kept rs s. told_same _ _ (IsSafe c.args.self.now.gate kept rs) c.reserve-2.ensures.same s
