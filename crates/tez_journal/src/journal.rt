@@ -85,6 +85,7 @@ impl<D: JournalDisk> Journal<D> {
         ensures room { OnOk result (body_len + 8 ≤ room D.spare self.new) }
         ensures later { room D.spare self.old ≤ room D.spare self.new }
         ensures same { D.disk (disk_of self.new) ≡ D.disk (disk_of self.old) }
+        ensures sound { IsOpen D.disk self.old → IsOpen D.disk self.new }
         ensures holds { (rs : List JournalRecord) → Holds D.disk self.old rs → Holds D.disk self.new rs }
         ensures survives { (kept rs : List JournalRecord) → Survives D.disk self.old kept rs → Survives D.disk self.new kept rs }
         ensures faults { D.faults (disk_of self.new) ≡ D.faults (disk_of self.old) }
@@ -128,6 +129,7 @@ impl<D: JournalDisk> Journal<D> {
         requires record { IsBody body.now }
         requires sound { IsOpen D.disk self.old }
         requires room { length body.now + 8 ≤ room D.spare self.old }
+        ensures sound { OnOk result (IsOpen D.disk self.new) }
         ensures holds { (rs : List JournalRecord) (r : JournalRecord) → Holds D.disk self.old rs → IsBodyOf r body.now → OnOk result (Holds D.disk self.new (rs ++ r ∷ [])) }
         ensures survives { (rs : List JournalRecord) (r : JournalRecord) → Holds D.disk self.old rs → IsBodyOf r body.now → OnOk result (Survives D.disk self.new rs (rs ++ r ∷ [])) }
         ensures err_read { (rs : List JournalRecord) (r : JournalRecord) → Holds D.disk self.old rs → IsBodyOf r body.now
@@ -153,6 +155,7 @@ impl<D: JournalDisk> Journal<D> {
         requires record { IsBody body.now }
         requires sound { IsOpen D.disk self.old }
         requires room { length body.now + 8 ≤ room D.spare self.old }
+        ensures sound { OnOk result (IsOpen D.disk self.new) }
         ensures holds { (rs : List JournalRecord) (r : JournalRecord) → Holds D.disk self.old rs → IsBodyOf r body.now → OnOk result (Holds D.disk self.new (rs ++ r ∷ [])) }
         ensures synced { OnOk result (Told (D.disk (disk_of self.new)) (λ d. d.pending ≡ [])) }
         ensures survives { (rs : List JournalRecord) (r : JournalRecord) → Holds D.disk self.old rs → IsBodyOf r body.now → OnOk result (Survives D.disk self.new (rs ++ r ∷ []) (rs ++ r ∷ [])) }

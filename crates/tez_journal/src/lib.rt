@@ -1,4 +1,4 @@
-//! The text of a journal: records behind gates. An entry counts where its gate is open, and a gate is
+//! A journal on a disk: records behind gates. An entry counts where its gate is open, and a gate is
 //! opened by a write of its own once its entry is on the disk, so no checksum is needed.
 #![tactic(auto)]
 
@@ -8,6 +8,8 @@ ghost use Rattle.tez_events.specs.Body.{body, FitsRecord};
 ghost use Rattle.tez_journal.specs.Text.{entries, framed, IsGated, IsText};
 ghost use Rattle.tez_ports.specs.Image.{IsTorn};
 
+#[cfg(test)]
+mod disk_tests;
 mod fault;
 mod journal;
 mod opening;

@@ -65,3 +65,9 @@ returns-clause-survives g c = λ rs r h is.
     let place = told_fact _ _ (gate ≡ length (entries rs)) c.lay.ensures.told (λ d told. c.lay.ensures.gate ∙ (h.read d told).1) in
     let laid = c.in_ok-lay.ensures.laid rs h in
     told_map (writes gate (1 ∷ [])) _ _ (IsSafe (gate + (length b + 5)) rs (rs ++ r ∷ [])) c.in_ok-write_at.ensures.ok (λ d told. laid_safe rs r b gate d (laid d told) is (place d told))
+
+pub returns-clause-sound : goal.returns-clause-sound
+returns-clause-sound g c =
+    let open_now = c.requires.sound in
+    let r = c.requires.«record» in
+    (open_now.0 ++ r.0 ∷ [], returns-clause-holds g c open_now.0 r.0 open_now.1 (r.1, r.2))

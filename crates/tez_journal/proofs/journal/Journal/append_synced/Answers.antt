@@ -36,3 +36,9 @@ returns-clause-err_images g c = λ kept rs r h s is.
     (λ d told image i. last_two kept rs qs image ((safe d told).images image i))
     (λ d told. settled_leaves d.read P (inr (inr (inr (held.read d told).0)))))
     c.sync.ensures.err
+
+pub returns-clause-sound : goal.returns-clause-sound
+returns-clause-sound g c =
+    let open_now = c.requires.sound in
+    let r = c.requires.«record» in
+    ok_map c.sync.result (λ h. (open_now.0 ++ r.0 ∷ [], h)) (returns-clause-holds g c open_now.0 r.0 open_now.1 (r.1, r.2))

@@ -11,3 +11,6 @@ returns-clause-holds g c = λ rs h. record {
 
 pub returns-clause-survives : goal.returns-clause-survives
 returns-clause-survives g c = λ kept rs s. told_same _ _ (IsSafe c.args.self.now.gate kept rs) c.reserve-2.ensures.same s
+
+pub returns-clause-sound : goal.returns-clause-sound
+returns-clause-sound g c = λ open_now. (open_now.0, returns-clause-holds g c open_now.0 open_now.1)
