@@ -1,0 +1,9 @@
+pub mod Choosing
+pub mod Committing
+pub mod Holding
+pub mod Leaving
+pub mod Losing
+pub mod Pairs
+pub mod Reading
+pub mod Sinks
+pub mod Stepping

@@ -1,0 +1,5 @@
+use Rattle.tez_pool_view.proofs.Stepping.{other_step}
+use Rattle.tez_pool_view.proofs.pool_is_left.Goals as goal
+
+pub returns : goal.returns
+returns c = other_step

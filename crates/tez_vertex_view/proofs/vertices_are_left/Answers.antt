@@ -1,0 +1,5 @@
+use Rattle.tez_vertex_view.proofs.Losing.{other_step}
+use Rattle.tez_vertex_view.proofs.vertices_are_left.Goals as goal
+
+pub returns : goal.returns
+returns c = other_step

@@ -1,0 +1,136 @@
+-- What the vertices have to be after a history.
+--     task_view c t past        a task: its live attempt, its winner, and its counts
+--     vertex_view c v past      a vertex with its tasks, none before it is configured
+--     vertices_view g c past    the vertices of the plan, by number
+--     change vs v f             the vertices once v changed by f
+--     take_in vs t e            the vertices once task t took an event
+--     FailedAreTasks g past     while the master is up, only tasks of configured vertices have failed
+use Rattle.std.specs.Prelude.{◌≡◌, ⊤, ℕ, Bool, true, false, nat_lt, nat_le, List, map, slice_get, slice_set, Option, Some, None}
+use Rattle.std.specs.List.{list_any, fold, filter, filter_map}
+use Rattle.std.specs.Option.{option_map, option_map_or}
+use Rattle.tez_ids.specs.declared.TaskId.{TaskId}
+use Rattle.tez_ids.specs.declared.AttemptId.{AttemptId}
+use Rattle.tez_ids.specs.Same.{task}
+use Rattle.tez_lists.specs.Numbers.{In}
+use Rattle.tez_plan.specs.Dag.{Dag, vertex}
+use Rattle.tez_conf.specs.declared.values.ConfValues.{ConfValues}
+use Rattle.tez_vman.specs.declared.seen.Config.{Config}
+use Rattle.tez_attempt.specs.declared.AttemptState.{AttemptState}
+use Rattle.tez_attempt.specs.declared.AttemptState.TheVariants.{Queued, Placed, Processing, Killed}
+use Rattle.tez_task.specs.declared.Live.{Live}
+use Rattle.tez_task.specs.declared.TaskEvent.{TaskEvent}
+use Rattle.tez_task.specs.declared.TaskEvent.TheVariants.{Kill, Lose}
+use Rattle.tez_task.specs.TaskState.{TaskState}
+use Rattle.tez_vertex.specs.Vertex.{Vertex}
+use Rattle.tez_vertex.specs.Table.{new_vertex, task_of, after_configure, after_take, after_restore}
+use Rattle.tez_history.specs.Shape.{numbers_below, vertices}
+use Rattle.tez_history.specs.History.{Past, Stage, Unknown, InQueue, Waits, Runs, Ended, stage, live, winner, attempts, failures, epoch, config, holder, is_up, extend}
+use Rattle.tez_history.specs.Derived.{is_configured, is_task, tasks, places_on, is_on_node}
+use Rattle.tez_history.specs.Steps.{each_after}
+use Rattle.tez_history.specs.Runs.{Standing, Found, Unfinished, AllDone, Begun, stands_if, opened_at}
+
+-- how far an attempt has come, by where it stands; one that is not live has ended
+abbrev pub machine_at : Stage → AttemptState
+machine_at InQueue = Queued
+machine_at (Waits p) = Placed
+machine_at (Runs p) = Processing
+machine_at Unknown = Killed
+machine_at Ended = Killed
+
+abbrev pub live_view : TaskId → Past → Option Live
+live_view t past = option_map (λ a. record { attempt = a; machine = machine_at (stage a past) }) (live t past)
+
+-- a task is spent once it has failed as often as it may
+abbrev pub task_view : ConfValues → TaskId → Past → TaskState
+task_view c t past = record {
+  task = t;
+  epoch = epoch past;
+  max_failed = c.max_failed;
+  live = live_view t past;
+  winner = winner t past;
+  queued = attempts t past;
+  failures = failures t past;
+  spent = nat_le c.max_failed (failures t past);
+}
+
+abbrev pub tasks_in : Option Config → ℕ
+tasks_in None = 0
+tasks_in (Some s) = s.tasks
+
+-- some task of it had an attempt queued
+abbrev pub has_moved : ℕ → Past → Bool
+has_moved v past = list_any (λ i. nat_lt 0 (attempts (task v i) past)) (numbers_below (tasks_in (config v past)))
+
+abbrev pub vertex_view : ConfValues → ℕ → Past → Vertex
+vertex_view c v past = record {
+  vertex = vertex v;
+  epoch = epoch past;
+  max_failed = c.max_failed;
+  configured = is_configured v past;
+  tasks = map (λ i. task_view c (task v i) past) (numbers_below (tasks_in (config v past)));
+  moved = has_moved v past;
+}
+
+abbrev pub vertices_view : Dag → ConfValues → Past → List Vertex
+vertices_view g c past = map (λ v. vertex_view c v past) (vertices g)
+
+-- vertices that are not configured
+abbrev pub new_vertices : Dag → ConfValues → ℕ → List Vertex
+new_vertices g c epoch = map (λ v. new_vertex (vertex v) epoch c.max_failed) (vertices g)
+
+-- ---- one vertex of several changes
+
+abbrev pub change_by : List Vertex → ℕ → (Vertex → Vertex) → Option Vertex → List Vertex
+change_by vs v f None = vs
+change_by vs v f (Some s) = slice_set vs v (f s)
+
+abbrev pub change : List Vertex → ℕ → (Vertex → Vertex) → List Vertex
+change vs v f = change_by vs v f (slice_get vs v)
+
+abbrev pub take_in : List Vertex → TaskId → TaskEvent → List Vertex
+take_in vs t e = change vs t.vertex.0 (λ s. after_take s t.index e)
+
+-- attempts are killed, and winners withdrawn, one after another
+abbrev pub kill_all : List Vertex → List AttemptId → List Vertex
+kill_all vs killed = fold (λ ws a. take_in ws a.task (Kill a)) vs killed
+
+abbrev pub lose_all : List Vertex → List AttemptId → List Vertex
+lose_all vs lost = fold (λ ws a. take_in ws a.task (Lose a)) vs lost
+
+-- who holds the places of a node, by place
+abbrev pub held_there : ConfValues → Past → ℕ → List AttemptId
+held_there c past slot = filter_map (λ p. holder p past) (places_on c slot)
+
+-- the winners whose pieces are lost with a node, by task
+abbrev pub lost_there : Dag → ConfValues → Past → ℕ → List AttemptId
+lost_there g c past slot = filter (is_on_node g c past slot) (filter_map (λ t. winner t past) (tasks g past))
+
+-- ---- what a new master is given: configurations, then failures, and then winners
+
+abbrev pub configure_one : List Vertex → ℕ × Config → List Vertex
+configure_one vs x = change vs x.0 (λ s. after_configure s x.1.tasks)
+
+abbrev pub carry_one : List Vertex → TaskId × ℕ → List Vertex
+carry_one vs x = change vs x.0.vertex.0 (λ s. after_restore s x.0.index x.1 None)
+
+abbrev pub failures_in : Vertex → ℕ → ℕ
+failures_in s i = option_map_or (λ t. t.failures) (task_of s i) 0
+
+abbrev pub keep_one : List Vertex → AttemptId → List Vertex
+keep_one vs a = change vs a.task.vertex.0 (λ s. after_restore s a.task.index (failures_in s a.task.index) (Some a))
+
+abbrev pub restored_vertices : Dag → ConfValues → ℕ → Standing → List Vertex
+restored_vertices g c epoch s = fold keep_one (fold carry_one (fold configure_one (new_vertices g c epoch) s.configured) s.failed) s.kept
+
+-- ---- failures
+
+abbrev pub FailedAreTasks : Dag → Past → Type 0
+FailedAreTasks g past = is_up past ≡ true → (t : TaskId) → is_task g past t ≡ false → failures t past ≡ 0
+
+-- the failures that a new master finds are at tasks of what stands configured
+abbrev pub FailedStand : Dag → Past → Found → Type 0
+FailedStand g past (Unfinished s) =
+    let start = opened_at s past in
+    (x : TaskId × ℕ) → In x s.failed → is_task g (extend start (each_after (stands_if g) start s.configured)) x.0 ≡ true
+FailedStand g past AllDone = ⊤
+FailedStand g past Begun = ⊤
