@@ -51,14 +51,14 @@ fn add<D: JournalDisk>(
     rt: &impl Abort,
     alloc: Global,
     journal: &mut Journal<D>,
-    record: &JournalRecord,
+    entry: &JournalRecord,
     synced: bool,
 ) -> Result<(), DeviceStop>
-    requires record { HasBody record.now }
+    requires body { HasBody entry.now }
     requires sound { IsOpen D.disk journal.old }
     ensures sound { OnOk result (IsOpen D.disk journal.new) }
 {
-    let body = encode(alloc, record).expect(rt, "memory");
+    let body = encode(alloc, entry).expect(rt, "memory");
     assert!(rt; body.len() < 1000);
     journal.reserve(body.len() as u32).expect(rt, "memory");
     if synced {
