@@ -13,7 +13,7 @@ use tez_ports::{DeviceStop, JournalDisk};
 /// A disk of which listed calls fail or are stopped, and a picker of what a cut of the power leaves.
 /// `reserve` and `power_cut` are not counted. A failed call takes no effect. A stopped write takes
 /// effect, so that the power cut behind it picks what is left of it; a stopped sync takes none, so that
-/// what was pending still is. A unit of room takes 18 bytes at most.
+/// what was pending still is. Room for n units takes 18 n bytes beside the content, and as many as that has.
 #[derive(Drop)]
 pub struct MemDisk {
     platter: Platter,

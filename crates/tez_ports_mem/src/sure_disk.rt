@@ -10,7 +10,7 @@ use std::alloc::{AllocError, Global};
 use tez_ports::{DeviceStop, JournalDisk};
 
 /// A disk that fails only at a write that would pass the limit of 2^62 bytes, and a picker of what a cut
-/// of the power leaves. A unit of room takes 18 bytes at most.
+/// of the power leaves. Room for n units takes 18 n bytes beside the content, and as many as that has.
 #[derive(Drop)]
 pub struct SureDisk {
     platter: Platter,
