@@ -56,7 +56,7 @@ leave_over c past f =
     (λ p _ _. ap (place_with (container_of c p past)) (none_same past (Over ∷ past) (holder p past) (none_held_at_start past p f))))
 
 leave_one : (g : Dag) (c : ConfValues) (past : Past) (e : Entry) → IsMade g c past → MayFollow g c past e → Leaves e → pool_view c (e ∷ past) ≡ pool_view c past
-leave_one g c past (Opened e) m f h = leave_opened c past e f
+leave_one g c past (Opened e) m f h = leave_opened c past e f.0
 leave_one g c past Over m f h = leave_over c past f
 leave_one g c past (Queued a) m f h = view_queued g c past a m f.2
 leave_one g c past (Placed _ _ _) m f h = absurd h

@@ -17,7 +17,7 @@ use Rattle.tez_history.specs.Shape.{numbers_below, places}
 use Rattle.tez_history.specs.History.{Past, InQueue, Ended, stage, holder, freed, container_of, next_container, life, extend}
 use Rattle.tez_history.specs.Derived.{is_processing, next_attempt, places_on}
 use Rattle.tez_history.specs.Steps.{killed_by_node, kill_at, each_after, requeue, node_kills}
-use Rattle.tez_history.specs.Follows.{IsMade, IsPlaced}
+use Rattle.tez_history.specs.Follows.{IsMade, IsOpen, IsPlaced}
 use Rattle.tez_laws.specs.Laws.{place_in}
 use Rattle.tez_laws.proofs.Same.{same_attempt-true, same_attempt-refl}
 use Rattle.tez_laws.proofs.Places.{held, fresh, placed_known, in_place}
@@ -231,10 +231,10 @@ view_lost c past later slot k =
         lost_place (q / c.per_node == slot) past later (holder q past) (holder q later) (next_container c past + q % c.per_node) (container_of c q past) now (λ b e. k.stages q b e)
         ∙ ap (λ n. place_with n (held_by later (holder q later))) (sym (k.containers q))
 
-pub view_killed : (g : Dag) (c : ConfValues) (past : Past) (slot : ℕ) → slot < c.nodes → IsMade g c past
+pub view_killed : (g : Dag) (c : ConfValues) (past : Past) (slot : ℕ) → slot < c.nodes → IsOpen past → IsMade g c past
     → after_loss (pool_view c past) slot ≡ pool_view c (extend (lost_at past slot) (node_kills c (lost_at past slot) slot))
-view_killed g c past slot there m =
-    view_lost c past (extend (lost_at past slot) (node_kills c (lost_at past slot) slot)) slot (kills g c (lost_at past slot) (places_on c slot) ((there, refl), m))
+view_killed g c past slot there o m =
+    view_lost c past (extend (lost_at past slot) (node_kills c (lost_at past slot) slot)) slot (kills g c (lost_at past slot) (places_on c slot) ((there, refl, o), m))
 
 pub view_idle : (c : ConfValues) (past : Past) (slot : ℕ) → ((p : ℕ) → holder p past ≡ None) → after_loss (pool_view c past) slot ≡ pool_view c (lost_at past slot)
 view_idle c past slot none = view_lost c past (lost_at past slot) slot (no_kills c (lost_at past slot) (places_on c slot) none)

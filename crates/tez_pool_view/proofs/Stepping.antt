@@ -1,5 +1,5 @@
 -- What each event makes of the view, and what a new master leaves of it.
-use Rattle.std.specs.Prelude.{◌≡◌, ℕ, suc, ◌<◌, nat_lt, nat_le, ⊤, Bool, true, false, IsTrue, ◌&&◌, if◌then◌else◌, List, [], ◌∷◌, ◌++◌, map, Option, Some, None, is_none, refl}
+use Rattle.std.specs.Prelude.{◌≡◌, ℕ, suc, max, ◌<◌, nat_lt, nat_le, ⊤, Bool, true, false, IsTrue, ◌&&◌, if◌then◌else◌, List, [], ◌∷◌, ◌++◌, map, Option, Some, None, is_none, refl}
 use Rattle.std.proofs.Common.{ap, sym, ◌∙◌, arith}
 use Rattle.std.proofs.lemmas.Bool.Decides.{nat_tests}
 use Rattle.tez_ids.specs.declared.TaskId.{TaskId}
@@ -13,14 +13,14 @@ use Rattle.tez_events.specs.declared.Entry.TheVariants.{Stands, Carried, Kept, S
 use Rattle.tez_events.specs.declared.CoreEvent.{CoreEvent}
 use Rattle.tez_events.specs.declared.CoreEvent.TheVariants.{Open, Configure, Queue, Place, Fetch, Send, Preempt, Fail, LoseNode, LoseOutput, Restart, Ready, CommitStart, Publish, Finish, Purge}
 use Rattle.tez_history.specs.Shape.{is_vertex}
-use Rattle.tez_history.specs.History.{Past, extend, stage, holder, container_of, winner, failures, config, is_committing, life, live}
+use Rattle.tez_history.specs.History.{Past, epoch, extend, stage, holder, container_of, winner, failures, config, is_committing, life, live}
 use Rattle.tez_history.specs.Derived.{is_processing, is_task}
 use Rattle.tez_history.specs.Steps.{enabled, entries_of, requeue, each_after, node_kills, node_withdrawals, node_loss_entries, winner_behind, done_entries}
 use Rattle.tez_history.specs.Rules.{is_at_start}
-use Rattle.tez_history.specs.Follows.{IsMade, IsPlaced, AllMayFollow}
+use Rattle.tez_history.specs.Follows.{IsMade, IsOpen, IsPlaced, AllMayFollow}
 use Rattle.tez_history.specs.Runs.{Standing, Run, Found, Unfinished, AllDone, Begun, stands_if, kept_if, carried_entries, standing_entries, opened_at, opened_unless, opened_by, spent_in}
 use Rattle.tez_laws.proofs.OneLive.{waits_placed}
-use Rattle.tez_laws.proofs.StepLaw.{both, event_may, done_may, made-extend, loss_may}
+use Rattle.tez_laws.proofs.StepLaw.{both, event_may, done_may, made-extend, loss_may, up_open}
 use Rattle.tez_laws.proofs.Going.{extend-append}
 use Rattle.tez_pool.specs.Table.{after_place, after_sent, after_release, after_loss}
 use Rattle.tez_pool_view.specs.Elsewhere.{IsElsewhere}
@@ -81,14 +81,14 @@ may-split : (g : Dag) (c : ConfValues) (past : Past) (xs ys : List Entry) → Al
 may-split g c past [] ys h = (tt, h)
 may-split g c past (x ∷ xs) ys h = let r = may-split g c (x ∷ past) xs ys h.1 in ((h.0, r.0), r.1)
 
-whole_loss : (g : Dag) (c : ConfValues) (past : Past) (slot : ℕ) → IsMade g c past → slot < c.nodes → after_loss (pool_view c past) slot ≡ pool_view c (extend past (node_loss_entries g c past slot))
-whole_loss g c past slot m there =
+whole_loss : (g : Dag) (c : ConfValues) (past : Past) (slot : ℕ) → IsMade g c past → slot < c.nodes → IsOpen past → after_loss (pool_view c past) slot ≡ pool_view c (extend past (node_loss_entries g c past slot))
+whole_loss g c past slot m there o =
     let lost = lost_at past slot in
     let kills = node_kills c lost slot in
     let rest = node_withdrawals g c slot past (extend lost kills) in
-    let f = loss_may g c past slot false m there in
+    let f = loss_may g c past slot false m there o in
     let r = may-split g c lost kills rest f.1 in
-    view_killed g c past slot there m
+    view_killed g c past slot there o m
     ∙ sym (leave_all g c (extend lost kills) rest (made-extend g c lost kills (f.0, m) r.0) r.1 (leave_withdrawals g c slot past (extend lost kills)))
     ∙ ap (pool_view c) (sym (extend-append lost kills rest))
 
@@ -97,7 +97,7 @@ pub lost_step : (g : Dag) (c : ConfValues) (past : Past) (slot : ℕ) → IsMade
 lost_step g c past slot m w h = by (is_committing past) refl where
   by : (b : Bool) → is_committing past ≡ b → after_loss (pool_view c past) slot ≡ pool_view c (extend past (if b then NodeLost slot (suc (life slot past)) ∷ [] else node_loss_entries g c past slot))
   by true e = view_idle c past slot (none_holds g c past m (w.committing (both h).0 e))
-  by false e = whole_loss g c past slot m (lt-from-ltb slot c.nodes (both h).1)
+  by false e = whole_loss g c past slot m (lt-from-ltb slot c.nodes (both h).1) (up_open past (both h).0)
 
 -- ---- the other events
 
@@ -179,4 +179,4 @@ opened_step g c r AllDone at = leave_over c r.past at
 opened_step g c r (Unfinished s) at = by (spent_in c s) where
   by : (o : Option (TaskId × ℕ)) → pool_view c (opened_unless g r s o).past ≡ pool_view c r.past
   by (Some x) = refl
-  by None = leave_found c (opened_at s r.past) (standing_entries g (opened_at s r.past) s) (found_all g (opened_at s r.past) s) ∙ leave_opened c r.past (record { 0 = suc s.epoch }) at
+  by None = leave_found c (opened_at s r.past) (standing_entries g (opened_at s r.past) s) (found_all g (opened_at s r.past) s) ∙ leave_opened c r.past (record { 0 = suc (max s.epoch (epoch r.past)) }) at
