@@ -21,17 +21,17 @@ use Rattle.tez_history.specs.Shape.{numbers_below}
 use Rattle.tez_history.specs.History.{Past, extend, stage, holder, freed, winner, failures, config, life, is_committing}
 use Rattle.tez_history.specs.Derived.{tasks, tasks_if, notices, next_attempt, places_on, is_on_node, is_on_shelf}
 use Rattle.tez_history.specs.Steps.{enabled, entries_of, each_after, requeue, withdrawal, killed_by_node, kill_at, withdrawn_if, withdraw_lost, node_kills, node_withdrawals, node_loss_entries, fetch_entries, winner_behind, output_lost_entries}
-use Rattle.tez_history.specs.Follows.{IsMade, AllMayFollow}
+use Rattle.tez_history.specs.Follows.{IsMade, IsOpen, AllMayFollow}
 use Rattle.tez_laws.specs.Laws.{FewFailures, place_in}
 use Rattle.tez_laws.proofs.Same.{same_attempt-true}
 use Rattle.tez_laws.proofs.Tasks.{winner_task}
 use Rattle.tez_laws.proofs.Places.{held, in_place}
-use Rattle.tez_laws.proofs.StepLaw.{both, event_may, made-extend, kill_may, withdrawal_may, through, notices_are}
+use Rattle.tez_laws.proofs.StepLaw.{both, event_may, made-extend, kill_may, withdrawal_may, through, notices_are, up_open}
 use Rattle.tez_laws.proofs.Going.{extend-append}
 use Rattle.tez_vertex_view.specs.View.{vertices_view, take_in, kill_all, lose_all, held_there, lost_there}
 use Rattle.tez_vertex_view.specs.Elsewhere.{IsElsewhere}
 use Rattle.tez_vertex_view.proofs.Taking.{takes_one}
-use Rattle.tez_vertex_view.proofs.Moving.{killed_takes, lost_takes}
+use Rattle.tez_vertex_view.proofs.Moving.{killed_takes, lost_takes, winner_stays}
 use Rattle.tez_vertex_view.proofs.Pairs.{in-map-out, in-numbers-out, Pairwise, pairwise-flat, pairwise-numbers, filter_map-same}
 
 -- ---- one withdrawal
@@ -132,7 +132,7 @@ losses_by g c slot before past t ts (Some w) rest other e m few = by (is_on_node
   kept : (u : TaskId) → In u ts → winner u (extend past (withdrawal g past w)) ≡ winner u past
   kept u i =
       withdrawn_fact g past w (λ p. winner u p) (λ p a e j x. refl) (λ p. refl)
-      ∙ ap (λ b. if b then None else winner u past) (subst (λ s. same_task s u ≡ false) (sym of) (other u i))
+      ∙ winner_stays past w u (subst (λ s. same_task s u ≡ false) (sym of) (other u i))
 
   few_later : FewFailures c (extend past (withdrawal g past w))
   few_later u = subst (λ n. n < c.max_failed) (sym (withdrawn_fact g past w (λ p. failures u p) (λ p a e j x. refl) (λ p. refl))) (few u)
@@ -203,13 +203,13 @@ kills_may g c past (p ∷ ps) m =
     one None e = m
     one (Some a) e = made-extend g c past (Killed a Node ∷ requeue past a.task) m (kill_may g c past a Node m (in_place (stage a past) p (held g c past m p a e)))
 
-pub loss_step : (g : Dag) (c : ConfValues) (past : Past) (slot : ℕ) → IsMade g c past → FewFailures c past → slot < c.nodes
+pub loss_step : (g : Dag) (c : ConfValues) (past : Past) (slot : ℕ) → IsMade g c past → FewFailures c past → slot < c.nodes → IsOpen past
     → vertices_view g c (extend past (node_loss_entries g c past slot)) ≡ lose_all (kill_all (vertices_view g c past) (held_there c past slot)) (lost_there g c past slot)
-loss_step g c past slot m few there =
+loss_step g c past slot m few there o =
     let lost : Past = NodeLost slot (suc (life slot past)) ∷ past in
     let kills = node_kills c lost slot in
     let mid = extend lost kills in
-    let made : IsMade g c lost = ((there, refl), m) in
+    let made : IsMade g c lost = ((there, refl, o), m) in
     ap (vertices_view g c) (extend-append lost kills (node_withdrawals g c slot past mid))
     ∙ losses_step g c slot past (tasks g past) mid (tasks_apart g past) (kills_may g c lost (places_on c slot) made) (λ t. subst (λ n. n < c.max_failed) (sym (kills_failures lost t (places_on c slot))) (few t))
     ∙ ap (λ vs. lose_all vs (on_node g c slot past (filter_map (λ t. winner t mid) (tasks g past)))) (kills_step g c (slot * c.per_node) c.per_node lost made few)
@@ -221,7 +221,7 @@ below a b h = grind (arith, nat_tests)
 pub lost_step : (g : Dag) (c : ConfValues) (past : Past) (slot : ℕ) → IsMade g c past → FewFailures c past → enabled g c past (LoseNode slot) ≡ true → is_committing past ≡ false
     → vertices_view g c (extend past (entries_of g c past (LoseNode slot))) ≡ lose_all (kill_all (vertices_view g c past) (held_there c past slot)) (lost_there g c past slot)
 lost_step g c past slot m few h before =
-    ap (λ b. vertices_view g c (extend past (if b then NodeLost slot (suc (life slot past)) ∷ [] else node_loss_entries g c past slot))) before ∙ loss_step g c past slot m few (below slot c.nodes (both h).1)
+    ap (λ b. vertices_view g c (extend past (if b then NodeLost slot (suc (life slot past)) ∷ [] else node_loss_entries g c past slot))) before ∙ loss_step g c past slot m few (below slot c.nodes (both h).1) (up_open past (both h).0)
 
 pub commit_step : (g : Dag) (c : ConfValues) (past : Past) (slot : ℕ) → is_committing past ≡ true → vertices_view g c (extend past (entries_of g c past (LoseNode slot))) ≡ vertices_view g c past
 commit_step g c past slot is = ap (λ b. vertices_view g c (extend past (if b then NodeLost slot (suc (life slot past)) ∷ [] else node_loss_entries g c past slot))) is

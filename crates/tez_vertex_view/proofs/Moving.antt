@@ -21,13 +21,13 @@ use Rattle.tez_task.specs.declared.TaskTook.TheVariants.{Moved, Again, Spent}
 use Rattle.tez_task.specs.TaskState.{TaskState}
 use Rattle.tez_task.specs.Table.{task_after, task_took}
 use Rattle.tez_vertex.specs.Table.{is_ignored}
-use Rattle.tez_history.specs.History.{Past, Stage, InQueue, Waits, Runs, Ended, stage, sent, live, winner, attempts, failures, epoch, config, extend}
+use Rattle.tez_history.specs.History.{Past, Stage, InQueue, Waits, Runs, Ended, stage, sent, live, winner, freed, attempts, failures, epoch, config, extend}
 use Rattle.tez_history.specs.Derived.{next_attempt, notices}
 use Rattle.tez_history.specs.Steps.{requeue}
 use Rattle.tez_history.specs.Follows.{IsMade, IsPlaced, IsAlive}
 use Rattle.tez_laws.specs.Laws.{FewFailures}
 use Rattle.tez_laws.proofs.OneLive.{one_live, placed_alive}
-use Rattle.tez_laws.proofs.Tasks.{live_task, no_both}
+use Rattle.tez_laws.proofs.Tasks.{live_task, winner_task, no_both}
 use Rattle.tez_laws.proofs.Places.{known, alive_known}
 use Rattle.tez_laws.proofs.Same.{same_task-refl, same_attempt-true, same_attempt-refl}
 use Rattle.tez_laws.proofs.StepLaw.{notices_are, through}
@@ -347,8 +347,22 @@ failed_takes_last g c past a p m few s all =
 
 -- ---- a winner is withdrawn
 
+unlike : (w b : AttemptId) (u : TaskId) → same_task w.task u ≡ false → b.task ≡ u → same_attempt w b ≡ false
+unlike w b u h e = grind arith
+
+freed_other : (w : AttemptId) (u : TaskId) (o : Option AttemptId) → same_task w.task u ≡ false → ((b : AttemptId) → o ≡ Some b → b.task ≡ u) → freed w o ≡ o
+freed_other w u None h of = refl
+freed_other w u (Some b) h of = ap (λ x. if x then None else Some b) (unlike w b u h (of b refl))
+
+-- the winners of other tasks stay, and it is gone
+pub winner_stays : (past : Past) (w : AttemptId) (u : TaskId) → same_task w.task u ≡ false → winner u (Rerun w ∷ past) ≡ winner u past
+winner_stays past w u h = freed_other w u (winner u past) h (winner_task past u)
+
+winner_goes : (past : Past) (w : AttemptId) → winner w.task past ≡ Some w → winner w.task (Rerun w ∷ past) ≡ None
+winner_goes past w won = ap (freed w) won ∙ ap (λ x. if x then None else Some w) (same_attempt-refl w)
+
 rerun_other : (c : ConfValues) (past : Past) (w : AttemptId) (u : TaskId) → same_task w.task u ≡ false → task_view c u (Rerun w ∷ past) ≡ task_view c u past
-rerun_other c past w u h = other_view c past (Rerun w ∷ past) u refl refl (λ b e. refl) (if_other (same_task w.task u) None (winner u past) h) refl refl
+rerun_other c past w u h = other_view c past (Rerun w ∷ past) u refl refl (λ b e. refl) (winner_stays past w u h) refl refl
 
 pub none_by_winner : (l w : Option AttemptId) (a : AttemptId) → ((b : AttemptId) → l ≡ Some b → w ≡ None) → w ≡ Some a → l ≡ None
 none_by_winner None w a h e = refl
@@ -366,7 +380,7 @@ lost_takes g c past w m few won =
       configs = λ v. told g past w (λ p. config v p) (λ p a e i x. refl);
       epochs = told g past w (λ p. epoch p) (λ p a e i x. refl);
       others = λ u h. told g past w (λ p. task_view c u p) (λ p a e i x. refl) ∙ rerun_other c past w u h;
-      none = told g past w (λ p. winner w.task p) (λ p a e i x. refl) ∙ if_same (same_task w.task w.task) None (winner w.task past) (same_task-refl w.task);
+      none = told g past w (λ p. winner w.task p) (λ p a e i x. refl) ∙ winner_goes past w won;
       attempts = told g past w (λ p. attempts w.task p) (λ p a e i x. refl);
     } in
     let next : next_attempt mid w.task ≡ next_attempt past w.task = same_next (epoch mid) (epoch past) (attempts w.task mid) (attempts w.task past) w.task b.epochs b.attempts in

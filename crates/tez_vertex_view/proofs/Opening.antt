@@ -1,5 +1,5 @@
 -- What a new master makes of the vertices.
-use Rattle.std.specs.Prelude.{◌≡◌, ◌⊎◌, ℕ, suc, ◌<◌, ◌≤◌, ◌&&◌, ◌==◌, nat_lt, nat_le, Bool, true, false, if◌then◌else◌, List, [], ◌∷◌, ◌++◌, map, length, slice_set, Option, Some, None, is_some, is_none, unwrap_or, refl}
+use Rattle.std.specs.Prelude.{◌≡◌, ◌⊎◌, ℕ, suc, max, ◌<◌, ◌≤◌, ◌&&◌, ◌==◌, nat_lt, nat_le, Bool, true, false, if◌then◌else◌, List, [], ◌∷◌, ◌++◌, map, length, slice_set, Option, Some, None, is_some, is_none, unwrap_or, refl}
 use Rattle.std.specs.List.{list_any, find, fold}
 use Rattle.std.specs.Option.{option_map_or}
 use Rattle.std.proofs.Common.{ap, sym, ◌∙◌, subst, arith, eq-eqb, inl, inr}
@@ -9,12 +9,13 @@ use Rattle.tez_ids.specs.declared.TaskId.{TaskId}
 use Rattle.tez_ids.specs.declared.AttemptId.{AttemptId}
 use Rattle.tez_ids.specs.Same.{task, same_task}
 use Rattle.tez_lists.specs.Numbers.{In}
-use Rattle.tez_lists.proofs.Tables.{map_below}
+use Rattle.tez_lists.proofs.Tables.{map_below, map_each}
 use Rattle.tez_plan.specs.Dag.{Dag, vertex, tasks_of as planned}
 use Rattle.tez_conf.specs.declared.values.ConfValues.{ConfValues}
 use Rattle.tez_vman.specs.declared.seen.Config.{Config}
 use Rattle.tez_vman.specs.Rules.{config as shape}
-use Rattle.tez_events.specs.declared.Entry.TheVariants.{Stands, Carried, Kept}
+use Rattle.tez_events.specs.declared.StopCause.{StopCause}
+use Rattle.tez_events.specs.declared.Entry.TheVariants.{Stands, Carried, Kept, Stopped}
 use Rattle.tez_task.specs.Table.{restored}
 use Rattle.tez_vertex.specs.Vertex.{Vertex}
 use Rattle.tez_vertex.specs.Table.{after_configure, new_tasks, after_restore, restore_by}
@@ -22,11 +23,11 @@ use Rattle.tez_history.specs.Shape.{numbers_below, is_vertex}
 use Rattle.tez_history.specs.History.{Past, extend, live, winner, attempts, failures, epoch, config}
 use Rattle.tez_history.specs.Derived.{is_configured, is_task}
 use Rattle.tez_history.specs.Steps.{each_after}
-use Rattle.tez_history.specs.Runs.{Standing, Run, Found, Unfinished, AllDone, Begun, stands_if, kept_if, carried_entries, standing_entries, opened_at, opened_unless, opened_by, spent_in}
+use Rattle.tez_history.specs.Runs.{Standing, Run, Found, Unfinished, AllDone, Begun, stands_if, kept_if, carried_entries, standing_entries, opened_at, opened_unless, opened_by, stopped, spent_in}
 use Rattle.tez_laws.specs.Laws.{FewFailures}
 use Rattle.tez_laws.proofs.Same.{same_task-true, same_task-refl}
 use Rattle.tez_laws.proofs.Going.{extend-append}
-use Rattle.tez_vertex_view.specs.View.{task_view, live_view, tasks_in, has_moved, vertex_view, vertices_view, change, change_by, configure_one, carry_one, failures_in, keep_one, restored_vertices, FailedAreTasks, FailedStand}
+use Rattle.tez_vertex_view.specs.View.{task_view, live_view, tasks_in, idle_task, idle, has_moved, vertex_view, vertices_view, change, change_by, configure_one, carry_one, failures_in, keep_one, restored_vertices, FailedAreTasks, FailedStand}
 use Rattle.tez_vertex_view.proofs.Taking.{get_below, get_above, set_below, any_same, change_view, same_vertex, stay_vertex, other_index, other_vertex}
 use Rattle.tez_vertex_view.proofs.Moving.{same_state, other_view}
 use Rattle.tez_vertex_view.proofs.Configuring.{configured_by, new_view}
@@ -245,10 +246,20 @@ kept_all g c (a ∷ xs) past = by (λ p. kept_all g c xs p) (is_task g past a.ta
   by rest true e = rest (Kept a ∷ past) ∙ ap (λ vs. fold keep_one vs xs) (keep_step g c past a e)
   by rest false e = rest past ∙ ap (λ vs. fold keep_one vs xs) (sym (keep_away g c past a e))
 
+-- ---- a stop
+
+stopped_one : (c : ConfValues) (past : Past) (cause : StopCause) (v : ℕ) → vertex_view c v (Stopped cause ∷ past) ≡ idle (vertex_view c v past)
+stopped_one c past cause v = ap (λ ts. record (vertex_view c v past) { tasks = ts }) (sym (map_each idle_task (λ i. task_view c (task v i) past) 0 (tasks_in (config v past))))
+
+pub stopped_step : (g : Dag) (c : ConfValues) (r : Run) (cause : StopCause) → vertices_view g c (stopped c r cause).past ≡ map idle (vertices_view g c r.past)
+stopped_step g c r cause =
+    map_below (λ v. vertex_view c v (Stopped cause ∷ r.past)) (λ v. idle (vertex_view c v r.past)) 0 (length g.vertices) (λ v _ _. stopped_one c r.past cause v)
+    ∙ sym (map_each idle (λ v. vertex_view c v r.past) 0 (length g.vertices))
+
 -- ---- a new master
 
 restored_all : (g : Dag) (c : ConfValues) (past : Past) (s : Standing) → 0 < c.max_failed → spent_in c s ≡ None
-    → vertices_view g c (extend (opened_at s past) (standing_entries g (opened_at s past) s)) ≡ restored_vertices g c (suc s.epoch) s
+    → vertices_view g c (extend (opened_at s past) (standing_entries g (opened_at s past) s)) ≡ restored_vertices g c (suc (max s.epoch (epoch past))) s
 restored_all g c past s some few =
     let start = opened_at s past in
     let stands = each_after (stands_if g) start s.configured in
@@ -264,7 +275,7 @@ restored_all g c past s some few =
     (carried_all g c s.failed stood (λ t. subst (λ n. n < c.max_failed) (sym (still t).failures) some) (λ t. (still t).winner) few
     ∙ ap (λ vs. fold carry_one vs s.failed) (stands_all g c s.configured start some blank))
 
-pub opened_step : (g : Dag) (c : ConfValues) (r : Run) (s : Standing) → 0 < c.max_failed → spent_in c s ≡ None → vertices_view g c (opened_by g c r (Unfinished s)).past ≡ restored_vertices g c (suc s.epoch) s
+pub opened_step : (g : Dag) (c : ConfValues) (r : Run) (s : Standing) → 0 < c.max_failed → spent_in c s ≡ None → vertices_view g c (opened_by g c r (Unfinished s)).past ≡ restored_vertices g c (suc (max s.epoch (epoch r.past))) s
 opened_step g c r s some few = ap (λ o. vertices_view g c (opened_unless g r s o).past) few ∙ restored_all g c r.past s some few
 
 -- ---- only tasks of configured vertices have failed

@@ -2,6 +2,7 @@
 --     task_view c t past        a task: its live attempt, its winner, and its counts
 --     vertex_view c v past      a vertex with its tasks, none before it is configured
 --     vertices_view g c past    the vertices of the plan, by number
+--     idle s                    a vertex once the master has stopped
 --     change vs v f             the vertices once v changed by f
 --     take_in vs t e            the vertices once task t took an event
 --     FailedAreTasks g past     while the master is up, only tasks of configured vertices have failed
@@ -77,6 +78,13 @@ vertices_view g c past = map (λ v. vertex_view c v past) (vertices g)
 -- vertices that are not configured
 abbrev pub new_vertices : Dag → ConfValues → ℕ → List Vertex
 new_vertices g c epoch = map (λ v. new_vertex (vertex v) epoch c.max_failed) (vertices g)
+
+-- after a stop no task has a live attempt or a winner; its counts stay
+abbrev pub idle_task : TaskState → TaskState
+idle_task t = record t { live = None; winner = None }
+
+abbrev pub idle : Vertex → Vertex
+idle s = record s { tasks = map idle_task s.tasks }
 
 -- ---- one vertex of several changes
 

@@ -4,7 +4,7 @@
 //! It has no code, but a function for each law, whose contract is the law.
 #![tactic(auto)]
 
-ghost use Rattle.std.specs.Prelude.{◌≡◌, ◌<◌, ◌&&◌, nat_le, length, slice_get, ℕ, List, IsTrue, true, false, suc, [], Some, None};
+ghost use Rattle.std.specs.Prelude.{◌≡◌, ◌<◌, ◌&&◌, nat_le, length, slice_get, map, max, ℕ, List, IsTrue, true, false, suc, [], Some, None};
 ghost use Rattle.std.specs.List.{list_all};
 ghost use Rattle.tez_ids.specs.declared.TaskId.{TaskId};
 ghost use Rattle.tez_ids.specs.declared.AttemptId.{AttemptId};
@@ -27,7 +27,7 @@ ghost use Rattle.tez_history.specs.Derived.{is_processing, is_configured, is_ver
 ghost use Rattle.tez_history.specs.Steps.{enabled, entries_of, done_entries, winner_behind};
 ghost use Rattle.tez_history.specs.Follows.{IsMade, IsPlaced};
 ghost use Rattle.tez_laws.specs.Laws.{FewFailures};
-ghost use Rattle.tez_vertex_view.specs.View.{task_view, vertex_view, vertices_view, new_vertices, restored_vertices, change, FailedAreTasks, FailedStand, take_in, kill_all, lose_all, held_there, lost_there};
+ghost use Rattle.tez_vertex_view.specs.View.{task_view, vertex_view, vertices_view, new_vertices, restored_vertices, idle, change, FailedAreTasks, FailedStand, take_in, kill_all, lose_all, held_there, lost_there};
 ghost use Rattle.tez_vertex_view.specs.Elsewhere.{IsElsewhere};
 
 /// A task gets its first attempt.
@@ -84,14 +84,17 @@ pub fn failed_are_tasks()
     ensures start { (g : Dag) (c : ConfValues) (r : Run) (found : Found) → FailedStand g r.past found → FailedAreTasks g r.past → FailedAreTasks g (opened_by g c r found).past }
 {}
 
-/// Before the first entry, after a stop, and where a new master finds a finished job, no vertex is
-/// configured. One that goes on configures what stands, then sets the failures that it finds, and
-/// then the winners that it takes over. What makes no sense in them changes nothing.
+/// Before the first entry, and where a new master finds a finished job, no vertex is configured. A
+/// stop leaves the vertices configured, with the counts of their tasks, but no task has a live attempt
+/// or a winner. A new master that goes on begins with vertices that are not configured, whatever a
+/// stop left: it configures what stands, then sets the failures that it finds, and then the winners
+/// that it takes over. What makes no sense in them changes nothing. Its epoch is above the one that it
+/// finds, and above each before.
 pub fn masters_change()
     ensures begins { (g : Dag) (c : ConfValues) → vertices_view g c [] ≡ new_vertices g c 0 }
-    ensures stop { (g : Dag) (c : ConfValues) (r : Run) (cause : StopCause) → vertices_view g c (stopped c r cause).past ≡ new_vertices g c (epoch r.past) }
+    ensures stop { (g : Dag) (c : ConfValues) (r : Run) (cause : StopCause) → vertices_view g c (stopped c r cause).past ≡ map idle (vertices_view g c r.past) }
     ensures over { (g : Dag) (c : ConfValues) (r : Run) → vertices_view g c (opened_by g c r Found.AllDone).past ≡ new_vertices g c (suc (epoch r.past)) }
-    ensures start { (g : Dag) (c : ConfValues) (r : Run) (s : Standing) → 0 < c.max_failed → spent_in c s ≡ None → vertices_view g c (opened_by g c r (Found.Unfinished s)).past ≡ restored_vertices g c (suc s.epoch) s }
+    ensures start { (g : Dag) (c : ConfValues) (r : Run) (s : Standing) → 0 < c.max_failed → spent_in c s ≡ None → vertices_view g c (opened_by g c r (Found.Unfinished s)).past ≡ restored_vertices g c (suc (max s.epoch (epoch r.past))) s }
 {}
 
 /// What a task answers is what the entries say: an attempt goes on, the next attempt that is queued
