@@ -5,7 +5,7 @@ use Rattle.std.proofs.lemmas.Bool.Decides.{nat_tests}
 use Rattle.tez_ids.specs.declared.VertexId.{VertexId}
 use Rattle.tez_ids.specs.declared.AttemptId.{AttemptId}
 use Rattle.tez_events.specs.declared.Entry.{Entry}
-use Rattle.tez_events.specs.declared.Entry.TheVariants.{Opened, Over, Stopped, Stands, Configured, Fetched, ReadError, InputFailed, Succeeded, Made, Failed, NodeLost}
+use Rattle.tez_events.specs.declared.Entry.TheVariants.{Opened, Over, Stands, Configured, Fetched, ReadError, InputFailed, Succeeded, Made, Failed, NodeLost}
 use Rattle.tez_events.specs.declared.CoreEvent.{CoreEvent}
 use Rattle.tez_events.specs.declared.CoreEvent.TheVariants.{Open, Configure, Queue, Place, Fetch, Send, Preempt, Fail, LoseNode, LoseOutput, Restart, Ready, CommitStart, Publish, Finish, Purge}
 use Rattle.tez_plan.specs.Dag.{Dag, edge, tasks_of as planned, vertex}
@@ -56,7 +56,6 @@ fits_planned g v = at_most (planned g v)
 pub entry_fits : (g : Dag) (c : ConfValues) (past : Past) (e : Entry) → IsValid g → MayFollow g c past e → FitsEntry g e → FitsPlan g past → FitsPlan g (e ∷ past)
 entry_fits g c past (Opened _) valid may fit fits v = at_most (planned g v)
 entry_fits g c past Over valid may fit fits v = at_most (planned g v)
-entry_fits g c past (Stopped _) valid may fit fits v = at_most (planned g v)
 entry_fits g c past (Stands w n b) valid may fit fits v = set_fits g w.0 v n b (config v past) fit (fits v)
 entry_fits g c past (Configured w n b) valid may fit fits v = set_fits g w.0 v n b (config v past) (configures_few g c w.0 past (shape n b) valid fits may.2 may.1) (fits v)
 entry_fits g c past _ valid may fit fits v = fits v

@@ -13,6 +13,7 @@ pub mod Inputs
 pub mod Reading
 pub mod Choosing
 pub mod Killing
+pub mod Closed
 pub mod Losing
 pub mod Beginning
 pub mod ByEvent

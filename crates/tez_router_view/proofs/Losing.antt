@@ -1,5 +1,5 @@
 -- Withdrawals one after another, each computed at its own moment, and the loss of a node as a whole.
-use Rattle.std.specs.Prelude.{◌≡◌, ℕ, suc, ◌+◌, ◌*◌, ◌<◌, Bool, true, false, if◌then◌else◌, List, [], ◌∷◌, ◌++◌, map, Option, Some, None, refl}
+use Rattle.std.specs.Prelude.{◌≡◌, ℕ, ◌+◌, ◌*◌, ◌<◌, Bool, true, false, if◌then◌else◌, List, [], ◌∷◌, ◌++◌, map, Option, Some, None, refl}
 use Rattle.std.specs.List.{filter, filter_map, cons_option, flat_map}
 use Rattle.std.specs.Option.{option_map_or}
 use Rattle.std.proofs.Common.{ap, sym, ◌∙◌, subst, inl, inr, zero-add}
@@ -7,16 +7,17 @@ use Rattle.tez_ids.specs.declared.TaskId.{TaskId}
 use Rattle.tez_ids.specs.declared.AttemptId.{AttemptId}
 use Rattle.tez_ids.specs.Same.{attempt, same_task}
 use Rattle.tez_events.specs.declared.Entry.{Entry}
-use Rattle.tez_events.specs.declared.Entry.TheVariants.{Queued, Rerun, NodeLost}
+use Rattle.tez_events.specs.declared.Entry.TheVariants.{Queued, Rerun}
 use Rattle.tez_events.specs.declared.CoreEvent.TheVariants.{LoseNode}
 use Rattle.tez_lists.specs.Numbers.{In}
 use Rattle.tez_lists.proofs.Flat.{flat_same, in-filter-out}
 use Rattle.tez_plan.specs.Dag.{Dag}
 use Rattle.tez_conf.specs.declared.values.ConfValues.{ConfValues}
-use Rattle.tez_history.specs.History.{Past, extend, winner, life, epoch, attempts, is_committing}
+use Rattle.tez_history.specs.History.{Past, extend, winner, epoch, attempts, is_committing}
 use Rattle.tez_history.specs.Derived.{tasks, notices, next_attempt, places_on, is_on_node}
 use Rattle.tez_history.specs.Steps.{each_after, withdrawal, withdrawn_if, withdraw_lost, node_kills, node_withdrawals, node_loss_entries, entries_of}
-use Rattle.tez_history.specs.Follows.{IsMade}
+use Rattle.tez_history.specs.Rules.{is_at_start}
+use Rattle.tez_history.specs.Follows.{IsMade, IsOpen}
 use Rattle.tez_laws.proofs.Tasks.{winner_task}
 use Rattle.tez_laws.proofs.StepLaw.{through, notices_are, made-extend, withdrawal_may}
 use Rattle.tez_laws.proofs.Going.{extend-append}
@@ -26,15 +27,17 @@ use Rattle.tez_router_view.specs.View.{router_view, FitsPlan}
 use Rattle.tez_router_view.specs.Events.{after_withdraws, holders_on, winners_on, notice_entry, withdrawal_lines, kill_lines}
 use Rattle.tez_router_view.proofs.Lists.{filter_map-same}
 use Rattle.tez_router_view.proofs.Ordering.{AreTasksInOrder, before_not, tasks-order}
-use Rattle.tez_router_view.proofs.Winners.{winner_read}
+use Rattle.tez_router_view.proofs.Winners.{winner_read, withdrawn_winner}
 use Rattle.tez_router_view.proofs.Moving.{withdrawal_view, withdrawal_ends}
 use Rattle.tez_router_view.proofs.Reading.{notices_same}
+use Rattle.tez_router_view.proofs.Closed.{lost_node, closed_view, closed_lines}
 use Rattle.tez_router_view.proofs.Killing.{kills_view, kills_keep, kills_lines, numbers-apart}
 
 -- ---- one withdrawal
 
-winner_after : (g : Dag) (past : Past) (w : AttemptId) (t : TaskId) → winner t (extend past (withdrawal g past w)) ≡ (if same_task w.task t then None else winner t past)
-winner_after g past w t = ap (winner t) (withdrawal_ends g past w) ∙ through (λ p. winner t p) (λ p a e i x. refl) (Rerun w ∷ past) (notices g past w) (notices_are g past w)
+winner_after : (g : Dag) (past : Past) (w : AttemptId) (t : TaskId) → winner w.task past ≡ Some w → winner t (extend past (withdrawal g past w)) ≡ (if same_task w.task t then None else winner t past)
+winner_after g past w t won =
+    ap (winner t) (withdrawal_ends g past w) ∙ through (λ p. winner t p) (λ p a e i x. refl) (Rerun w ∷ past) (notices g past w) (notices_are g past w) ∙ withdrawn_winner past w t won
 
 next_through : (g : Dag) (past : Past) (w : AttemptId) (t : TaskId) → next_attempt (extend (Rerun w ∷ past) (notices g past w)) t ≡ next_attempt past t
 next_through g past w t = through (λ p. next_attempt p t) (λ p a e i x. refl) (Rerun w ∷ past) (notices g past w) (notices_are g past w)
@@ -64,10 +67,10 @@ abbrev lost_of : Dag → ConfValues → ℕ → Past → Past → List TaskId �
 lost_of g c slot before past ts = filter (is_on_node g c before slot) (filter_map (λ t. winner t past) ts)
 
 -- a later task's winner stays
-later_winners : (g : Dag) (past : Past) (w : AttemptId) (t : TaskId) (ts : List TaskId) → w.task ≡ t → AreTasksInOrder (t ∷ ts) → filter_map (λ u. winner u (extend past (withdrawal g past w))) ts ≡ filter_map (λ u. winner u past) ts
-later_winners g past w t ts at order =
+later_winners : (g : Dag) (past : Past) (w : AttemptId) (t : TaskId) (ts : List TaskId) → w.task ≡ t → winner w.task past ≡ Some w → AreTasksInOrder (t ∷ ts) → filter_map (λ u. winner u (extend past (withdrawal g past w))) ts ≡ filter_map (λ u. winner u past) ts
+later_winners g past w t ts at won order =
     filter_map-same (λ u. winner u (extend past (withdrawal g past w))) (λ u. winner u past) ts
-    (λ u i. winner_after g past w u ∙ ap (λ b. if b then None else winner u past) (subst (λ s. same_task s u ≡ false) (sym at) (before_not t u (order.0 u i)).2))
+    (λ u i. winner_after g past w u won ∙ ap (λ b. if b then None else winner u past) (subst (λ s. same_task s u ≡ false) (sym at) (before_not t u (order.0 u i)).2))
 
 in-won : (past : Past) (w : AttemptId) (ts : List TaskId) → In w (filter_map (λ t. winner t past) ts) → (t : TaskId) × In t ts × (winner t past ≡ Some w)
 in-won past w [] h = absurd h
@@ -97,7 +100,7 @@ withdraws g c slot before past (t ∷ ts) m order = by (winner t past) refl (wit
       let at : w.task ≡ t = winner_task past t w h in
       let won : winner w.task past ≡ Some w = subst (λ u. winner u past ≡ Some w) (sym at) h in
       let r = more (made-extend g c past (withdrawal g past w) m (withdrawal_may g c past w m won)) in
-      let same : lost_of g c slot before (extend past (withdrawal g past w)) ts ≡ lost_of g c slot before past ts = ap (filter (is_on_node g c before slot)) (later_winners g past w t ts at order) in
+      let same : lost_of g c slot before (extend past (withdrawal g past w)) ts ≡ lost_of g c slot before past ts = ap (filter (is_on_node g c before slot)) (later_winners g past w t ts at won order) in
       let rest : List Entry = each_after (withdraw_lost g c slot before) (extend past (withdrawal g past w)) ts in (
         ap (router_view g) (extend-append past (withdrawal g past w) rest) ∙ r.0
             ∙ ap (λ s. after_withdraws s (lost_of g c slot before (extend past (withdrawal g past w)) ts)) (sym (withdrawal_view g c past w m won))
@@ -134,9 +137,6 @@ lines_by g c past later s w m fits is same won next =
 pub withdrawal_read : (g : Dag) (c : ConfValues) (past : Past) (w : AttemptId) → IsMade g c past → FitsPlan g past → winner w.task past ≡ Some w → withdrawal g past w ≡ withdrawal_lines (router_view g past) past w
 withdrawal_read g c past w m fits won = lines_by g c past past (router_view g past) w m fits refl refl won refl
 
-abbrev pub lost_node : Past → ℕ → Entry
-lost_node past slot = NodeLost slot (suc (life slot past))
-
 abbrev killed_off : ConfValues → Past → ℕ → Past
 killed_off c past slot = extend (lost_node past slot ∷ past) (node_kills c (lost_node past slot ∷ past) slot)
 
@@ -144,35 +144,42 @@ not_committing : {X : Type 0} (b : Bool) (x y : X) → b ≡ false → (if b the
 not_committing true x y h = cc
 not_committing false x y h = refl
 
-lost_same : (g : Dag) (c : ConfValues) (past : Past) (slot : ℕ) → IsMade g c past → slot < c.nodes → lost_of g c slot past (killed_off c past slot) (tasks g past) ≡ winners_on g c past slot
-lost_same g c past slot m there =
+lost_same : (g : Dag) (c : ConfValues) (past : Past) (slot : ℕ) → IsMade g c past → slot < c.nodes → IsOpen past → lost_of g c slot past (killed_off c past slot) (tasks g past) ≡ winners_on g c past slot
+lost_same g c past slot m there o =
     ap (filter (is_on_node g c past slot))
-    (filter_map-same (λ t. winner t (killed_off c past slot)) (λ t. winner t past) (tasks g past) (λ t _. (kills_keep g c (lost_node past slot ∷ past) (places_on c slot) ((there, refl), m)).winners t))
+    (filter_map-same (λ t. winner t (killed_off c past slot)) (λ t. winner t past) (tasks g past) (λ t _. (kills_keep g c (lost_node past slot ∷ past) (places_on c slot) ((there, refl, o), m)).winners t))
 
-pub node_loss_view : (g : Dag) (c : ConfValues) (past : Past) (slot : ℕ) → IsMade g c past → slot < c.nodes → is_committing past ≡ false
+open_loss_view : (g : Dag) (c : ConfValues) (past : Past) (slot : ℕ) → IsMade g c past → slot < c.nodes → IsOpen past → is_committing past ≡ false
     → router_view g (extend past (entries_of g c past (LoseNode slot))) ≡ after_withdraws (without (router_view g past) (holders_on c past slot)) (winners_on g c past slot)
-node_loss_view g c past slot m there idle =
+open_loss_view g c past slot m there o idle =
     let lost = lost_node past slot in
-    let made : IsMade g c (lost ∷ past) = ((there, refl), m) in
+    let made : IsMade g c (lost ∷ past) = ((there, refl, o), m) in
     let kills : List Entry = node_kills c (lost ∷ past) slot in
     let keep = kills_keep g c (lost ∷ past) (places_on c slot) made in
     ap (λ es. router_view g (extend past es)) (not_committing (is_committing past) (lost ∷ []) (node_loss_entries g c past slot) idle)
     ∙ ap (router_view g) (extend-append (lost ∷ past) kills (node_withdrawals g c slot past (extend (lost ∷ past) kills)))
     ∙ (withdraws g c slot past (extend (lost ∷ past) kills) (tasks g past) keep.made (tasks-order g past)).0
     ∙ ap (λ s. after_withdraws s (lost_of g c slot past (killed_off c past slot) (tasks g past))) (kills_view g c (lost ∷ past) (places_on c slot) made)
-    ∙ ap (after_withdraws (without (router_view g past) (holders_on c past slot))) (lost_same g c past slot m there)
+    ∙ ap (after_withdraws (without (router_view g past) (holders_on c past slot))) (lost_same g c past slot m there o)
+
+pub node_loss_view : (g : Dag) (c : ConfValues) (past : Past) (slot : ℕ) → IsMade g c past → slot < c.nodes → is_committing past ≡ false
+    → router_view g (extend past (entries_of g c past (LoseNode slot))) ≡ after_withdraws (without (router_view g past) (holders_on c past slot)) (winners_on g c past slot)
+node_loss_view g c past slot m there idle = by (is_at_start past) refl where
+  by : (b : Bool) → is_at_start past ≡ b → router_view g (extend past (entries_of g c past (LoseNode slot))) ≡ after_withdraws (without (router_view g past) (holders_on c past slot)) (winners_on g c past slot)
+  by true start = ap (λ es. router_view g (extend past es)) (not_committing (is_committing past) (lost_node past slot ∷ []) (node_loss_entries g c past slot) idle) ∙ closed_view g c past slot start
+  by false o = open_loss_view g c past slot m there o idle
 
 won_on : (g : Dag) (c : ConfValues) (past : Past) (slot : ℕ) (w : AttemptId) → In w (winners_on g c past slot) → winner w.task past ≡ Some w
 won_on g c past slot w i =
     let r = in-won past w (tasks g past) (in-filter-out (is_on_node g c past slot) w (filter_map (λ t. winner t past) (tasks g past)) i) in
     subst (λ t. winner t past ≡ Some w) (sym (winner_task past r.0 w r.2)) r.2
 
-pub node_loss_lines : (g : Dag) (c : ConfValues) (past : Past) (slot : ℕ) → IsMade g c past → FitsPlan g past → slot < c.nodes → is_committing past ≡ false
+open_loss_lines : (g : Dag) (c : ConfValues) (past : Past) (slot : ℕ) → IsMade g c past → FitsPlan g past → slot < c.nodes → IsOpen past → is_committing past ≡ false
     → entries_of g c past (LoseNode slot)
     ≡ lost_node past slot ∷ (flat_map (kill_lines past) (holders_on c past slot) ++ flat_map (withdrawal_lines (without (router_view g past) (holders_on c past slot)) past) (winners_on g c past slot))
-node_loss_lines g c past slot m fits there idle =
+open_loss_lines g c past slot m fits there o idle =
     let lost = lost_node past slot in
-    let made : IsMade g c (lost ∷ past) = ((there, refl), m) in
+    let made : IsMade g c (lost ∷ past) = ((there, refl, o), m) in
     let kills : List Entry = node_kills c (lost ∷ past) slot in
     let later : Past = extend (lost ∷ past) kills in
     let keep = kills_keep g c (lost ∷ past) (places_on c slot) made in
@@ -180,8 +187,18 @@ node_loss_lines g c past slot m fits there idle =
     ∙ ap (λ ks. lost ∷ (ks ++ node_withdrawals g c slot past later)) (kills_lines g c (lost ∷ past) (places_on c slot) made (numbers-apart (slot * c.per_node) c.per_node))
     ∙ ap (λ ws. lost ∷ (flat_map (kill_lines past) (holders_on c past slot) ++ ws))
     ((withdraws g c slot past later (tasks g past) keep.made (tasks-order g past)).1
-    ∙ ap (flat_map (withdrawal g later)) (lost_same g c past slot m there)
+    ∙ ap (flat_map (withdrawal g later)) (lost_same g c past slot m there o)
     ∙ flat_same (withdrawal g later) (withdrawal_lines (without (router_view g past) (holders_on c past slot)) past) (winners_on g c past slot)
     (λ w i.
     let won = won_on g c past slot w i in
     lines_by g c past later (without (router_view g past) (holders_on c past slot)) w m fits (kills_view g c (lost ∷ past) (places_on c slot) made) refl won (keep.next w.task w won)))
+
+pub node_loss_lines : (g : Dag) (c : ConfValues) (past : Past) (slot : ℕ) → IsMade g c past → FitsPlan g past → slot < c.nodes → is_committing past ≡ false
+    → entries_of g c past (LoseNode slot)
+    ≡ lost_node past slot ∷ (flat_map (kill_lines past) (holders_on c past slot) ++ flat_map (withdrawal_lines (without (router_view g past) (holders_on c past slot)) past) (winners_on g c past slot))
+node_loss_lines g c past slot m fits there idle = by (is_at_start past) refl where
+  by : (b : Bool) → is_at_start past ≡ b
+      → entries_of g c past (LoseNode slot)
+      ≡ lost_node past slot ∷ (flat_map (kill_lines past) (holders_on c past slot) ++ flat_map (withdrawal_lines (without (router_view g past) (holders_on c past slot)) past) (winners_on g c past slot))
+  by true start = not_committing (is_committing past) (lost_node past slot ∷ []) (node_loss_entries g c past slot) idle ∙ closed_lines g c past slot (without (router_view g past) (holders_on c past slot)) start
+  by false o = open_loss_lines g c past slot m fits there o idle

@@ -86,8 +86,8 @@ kept_view g past a inside = ap (λ rows. router_with (router_view g past) rows (
 
 -- ---- withdrawn
 
-pub rerun_view : (g : Dag) (past : Past) (w : AttemptId) → w.task.vertex.0 < length g.vertices → after_withdraw (router_view g past) w.task ≡ router_view g (Rerun w ∷ past)
-rerun_view g past w inside = ap (λ rows. router_with (router_view g past) rows (map (admitted_view g past) (waiting_attempts g past))) (withdrawn_row g past w inside)
+pub rerun_view : (g : Dag) (past : Past) (w : AttemptId) → w.task.vertex.0 < length g.vertices → winner w.task past ≡ Some w → after_withdraw (router_view g past) w.task ≡ router_view g (Rerun w ∷ past)
+rerun_view g past w inside won = ap (λ rows. router_with (router_view g past) rows (map (admitted_view g past) (waiting_attempts g past))) (withdrawn_row g past w inside won)
 
 none_by_winner : (l w : Option AttemptId) (a : AttemptId) → ((b : AttemptId) → l ≡ Some b → w ≡ None) → w ≡ Some a → l ≡ None
 none_by_winner None w a h e = refl
@@ -105,7 +105,7 @@ pub withdrawal_view : (g : Dag) (c : ConfValues) (past : Past) (w : AttemptId) �
 withdrawal_view g c past w m won =
     let told = notices_are g past w in
     let lives : live w.task (extend (Rerun w ∷ past) (notices g past w)) ≡ live w.task past = through (λ p. live w.task p) (λ p a e i x. refl) (Rerun w ∷ past) (notices g past w) told in
-    rerun_view g past w (won_vertex g c past m w.task w won)
+    rerun_view g past w (won_vertex g c past m w.task w won) won
     ∙ sym (through (λ p. router_view g p) (λ p a e i x. refl) (Rerun w ∷ past) (notices g past w) told)
     ∙ sym (queued_view g (extend (Rerun w ∷ past) (notices g past w)) (next_attempt past w.task) (lives ∙ won_not_live g c past m w.task w won))
     ∙ ap (router_view g) (sym (withdrawal_ends g past w))

@@ -17,8 +17,8 @@ use Rattle.tez_history.specs.History.{Past, extend, config, live, winner}
 use Rattle.tez_history.specs.Derived.{is_task, tasks, waiting_attempts}
 use Rattle.tez_history.specs.Steps.{each_after}
 use Rattle.tez_history.specs.Runs.{Standing, stands_if, kept_if, carried_entries, opened_at, standing_entries}
-use Rattle.tez_history.specs.Follows.{IsMade, AllMayFollow}
-use Rattle.tez_laws.proofs.StepLaw.{both, each_may, made-extend}
+use Rattle.tez_history.specs.Follows.{IsMade, IsOpen}
+use Rattle.tez_laws.proofs.StepLaw.{both}
 use Rattle.tez_laws.proofs.Going.{extend-append}
 use Rattle.tez_router.specs.State.{Routing}
 use Rattle.tez_router.specs.Planned.{planned_router}
@@ -62,15 +62,25 @@ none_is : (o : Option Config) → is_none o ≡ true → o ≡ None
 none_is None h = refl
 none_is (Some s) h = cc
 
-stands_may : (g : Dag) (c : ConfValues) (past : Past) (x : ℕ × Config) → IsMade g c past → AllMayFollow g c past (stands_if g past x)
-stands_may g c past x m = by (is_none (config x.0 past) && is_vertex g x.0) refl where
-  by : (b : Bool) → (is_none (config x.0 past) && is_vertex g x.0) ≡ b → AllMayFollow g c past (if b then Stands (vertex x.0) x.1.tasks x.1.base ∷ [] else [])
-  by true e = let k = both {x = is_none (config x.0 past)} e in ((none_is (config x.0 past) k.0, k.1), tt)
-  by false e = tt
+-- made so far, by a master that is open
+abbrev IsGoing : Dag → ConfValues → Past → Type 0
+IsGoing g c past = IsMade g c past × IsOpen past
 
-carried_may : (g : Dag) (c : ConfValues) (past : Past) (xs : List (TaskId × ℕ)) → AllMayFollow g c past (carried_entries xs)
-carried_may g c past [] = tt
-carried_may g c past (x ∷ xs) = (tt, carried_may g c (Carried x.0 x.1 ∷ past) xs)
+stands_may : (g : Dag) (c : ConfValues) (past : Past) (xs : List (ℕ × Config)) → IsGoing g c past → IsGoing g c (extend past (each_after (stands_if g) past xs))
+stands_may g c past [] k = k
+stands_may g c past (x ∷ xs) k =
+    by (is_none (config x.0 past) && is_vertex g x.0) refl (stands_may g c past xs k) (λ l. stands_may g c (Stands (vertex x.0) x.1.tasks x.1.base ∷ past) xs l)
+  where
+    by : (b : Bool) → (is_none (config x.0 past) && is_vertex g x.0) ≡ b → IsGoing g c (extend past (each_after (stands_if g) past xs))
+        → (IsGoing g c (Stands (vertex x.0) x.1.tasks x.1.base ∷ past)
+        → IsGoing g c (extend (Stands (vertex x.0) x.1.tasks x.1.base ∷ past) (each_after (stands_if g) (Stands (vertex x.0) x.1.tasks x.1.base ∷ past) xs)))
+        → IsGoing g c (extend past ((if b then Stands (vertex x.0) x.1.tasks x.1.base ∷ [] else []) ++ each_after (stands_if g) (extend past (if b then Stands (vertex x.0) x.1.tasks x.1.base ∷ [] else [])) xs))
+    by true e stays moves = let t = both {x = is_none (config x.0 past)} e in moves (((none_is (config x.0 past) t.0, t.1, k.1), k.0), refl)
+    by false e stays moves = stays
+
+carried_may : (g : Dag) (c : ConfValues) (past : Past) (xs : List (TaskId × ℕ)) → IsGoing g c past → IsGoing g c (extend past (carried_entries xs))
+carried_may g c past [] k = k
+carried_may g c past (x ∷ xs) k = carried_may g c (Carried x.0 x.1 ∷ past) xs ((k.1, k.0), refl)
 
 -- ---- the winners that are taken over
 
@@ -87,7 +97,7 @@ kept_all g past (w ∷ ws) inside = by (is_task g past w.task) refl (kept_all g 
 
 -- ---- the edges
 
-nobody : (g : Dag) (past : Past) → ((t : TaskId) → live t past ≡ None) → waiting_attempts g past ≡ []
+pub nobody : (g : Dag) (past : Past) → ((t : TaskId) → live t past ≡ None) → waiting_attempts g past ≡ []
 nobody g past dead = waiting_by_task g past ∙ filter_map-none (waiting_at past) (tasks g past) (λ t. none_live past t (dead t))
 
 nobody_first : (g : Dag) (a : AttemptId) → In a (waiting_attempts g []) → ⊥
@@ -123,11 +133,8 @@ stood_keeps : {A : Type 0} (g : Dag) (s : Standing) (fact : Past → A) → ((p 
     → (past : Past) → fact (stood g past s) ≡ fact past
 stood_keeps g s fact same too past = carried_keep fact too (extend past (each_after (stands_if g) past s.configured)) s.failed ∙ stands_keep g fact same past s.configured
 
-stood_made : (g : Dag) (c : ConfValues) (past : Past) (s : Standing) → IsMade g c past → IsMade g c (stood g past s)
-stood_made g c past s m =
-    made-extend g c (extend past (each_after (stands_if g) past s.configured)) (carried_entries s.failed)
-    (made-extend g c past (each_after (stands_if g) past s.configured) m (each_may g c (stands_if g) (stands_may g c) past s.configured m))
-    (carried_may g c (extend past (each_after (stands_if g) past s.configured)) s.failed)
+stood_made : (g : Dag) (c : ConfValues) (past : Past) (s : Standing) → IsGoing g c past → IsMade g c (stood g past s)
+stood_made g c past s k = (carried_may g c (extend past (each_after (stands_if g) past s.configured)) s.failed (stands_may g c past s.configured k)).0
 
 pub ends_so : (g : Dag) (past : Past) (s : Standing) → extend past (standing_entries g past s) ≡ extend (stood g past s) (each_after (kept_if g) (stood g past s) s.kept)
 ends_so g past s =
@@ -139,7 +146,7 @@ pub opened_view : (g : Dag) (c : ConfValues) (past : Past) (s : Standing) → Is
     → CanSetEdges (planned_router g) (links_view g later) × (router_view g later ≡ after_announces (after_set_edges (planned_router g) (links_view g later)) (filter (λ w. is_task g later w.task) s.kept))
 opened_view g c past s m later is =
     let before : Past = stood g (opened_at s past) s in
-    let made : IsMade g c before = stood_made g c (opened_at s past) s m in
+    let made : IsMade g c before = stood_made g c (opened_at s past) s (m, refl) in
     let dead : (t : TaskId) → live t before ≡ None = λ t. stood_keeps g s (λ p. live t p) (λ p v n b. refl) (λ p u n. refl) (opened_at s past) in
     let lost : (t : TaskId) → winner t before ≡ None = λ t. stood_keeps g s (λ p. winner t p) (λ p v n b. refl) (λ p u n. refl) (opened_at s past) in
     let ends : later ≡ extend before (each_after (kept_if g) before s.kept) = is ∙ ends_so g (opened_at s past) s in

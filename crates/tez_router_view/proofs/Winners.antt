@@ -1,18 +1,20 @@
 -- The table of winners is what the history says, and what entries make of it.
-use Rattle.std.specs.Prelude.{◌≡◌, ℕ, ◌<◌, ◌≤◌, true, [], ◌∷◌, length, slice_get, Option, Some, None, unwrap_or, refl, nat_lt}
-use Rattle.std.proofs.Common.{ap, ◌∙◌, arith}
+use Rattle.std.specs.Prelude.{◌≡◌, ℕ, ◌<◌, ◌≤◌, Bool, true, false, if◌then◌else◌, [], ◌∷◌, length, slice_get, Option, Some, None, unwrap_or, refl, nat_lt}
+use Rattle.std.proofs.Common.{ap, sym, ◌∙◌, subst, arith}
 use Rattle.tez_ids.specs.declared.TaskId.{TaskId}
 use Rattle.tez_ids.specs.declared.AttemptId.{AttemptId}
-use Rattle.tez_ids.specs.Same.{task}
+use Rattle.tez_ids.specs.Same.{task, same_task, same_attempt}
 use Rattle.tez_events.specs.declared.Entry.TheVariants.{Succeeded, Rerun, Kept}
 use Rattle.tez_lists.specs.Tables.{set_in}
 use Rattle.tez_lists.proofs.Tables.{set_table, cell_get, cell_there}
 use Rattle.tez_plan.specs.Dag.{Dag, tasks_of as planned}
 use Rattle.tez_conf.specs.declared.values.ConfValues.{ConfValues}
 use Rattle.tez_history.specs.Shape.{is_vertex}
-use Rattle.tez_history.specs.History.{Past, winner, live}
+use Rattle.tez_history.specs.History.{Past, winner, freed, live}
 use Rattle.tez_history.specs.Derived.{is_task, task_count, is_configured}
 use Rattle.tez_history.specs.Follows.{IsMade}
+use Rattle.tez_laws.proofs.Same.{same_task-true, same_attempt-refl}
+use Rattle.tez_laws.proofs.Tasks.{winner_task}
 use Rattle.tez_laws.proofs.StepLaw.{both}
 use Rattle.tez_laws.proofs.Ranges.{scheduled_is_task, configured_is_vertex, live_scheduled, winner_scheduled}
 use Rattle.tez_router.specs.Table.{winner_at}
@@ -61,9 +63,22 @@ winner_read g c past m fits t = by (winner t past) refl where
 
 -- ---- the entries that set a winner
 
-pub withdrawn_row : (g : Dag) (past : Past) (w : AttemptId) → w.task.vertex.0 < length g.vertices → set_in (winners_view g past) w.task.vertex.0 w.task.index None ≡ winners_view g (Rerun w ∷ past)
-withdrawn_row g past w inside =
-    set_table (λ v i. winner (task v i) past) (λ v i. winner (task v i) (Rerun w ∷ past)) (planned g) (length g.vertices) w.task.vertex.0 w.task.index None inside (λ u j. refl)
+unlike : (w x : AttemptId) (t : TaskId) → same_task w.task t ≡ false → x.task ≡ t → same_attempt w x ≡ false
+unlike w x t h e = grind arith
+
+freed_by : (w : AttemptId) (t : TaskId) (b : Bool) (o : Option AttemptId) → same_task w.task t ≡ b → (b ≡ true → o ≡ Some w) → ((x : AttemptId) → o ≡ Some x → x.task ≡ t) → freed w o ≡ (if b then None else o)
+freed_by w t true o e has of = ap (freed w) (has refl) ∙ ap (λ x. if x then None else Some w) (same_attempt-refl w)
+freed_by w t false None e has of = refl
+freed_by w t false (Some x) e has of = ap (λ y. if y then None else Some x) (unlike w x t e (of x refl))
+
+-- a winner that goes leaves those of other tasks
+pub withdrawn_winner : (past : Past) (w : AttemptId) (t : TaskId) → winner w.task past ≡ Some w → winner t (Rerun w ∷ past) ≡ (if same_task w.task t then None else winner t past)
+withdrawn_winner past w t won =
+    freed_by w t (same_task w.task t) (winner t past) refl (λ e. subst (λ u. winner u past ≡ Some w) (same_task-true w.task t e) won) (winner_task past t)
+
+pub withdrawn_row : (g : Dag) (past : Past) (w : AttemptId) → w.task.vertex.0 < length g.vertices → winner w.task past ≡ Some w → set_in (winners_view g past) w.task.vertex.0 w.task.index None ≡ winners_view g (Rerun w ∷ past)
+withdrawn_row g past w inside won =
+    set_table (λ v i. winner (task v i) past) (λ v i. winner (task v i) (Rerun w ∷ past)) (planned g) (length g.vertices) w.task.vertex.0 w.task.index None inside (λ u j. sym (withdrawn_winner past w (task u j) won))
 
 pub announced_row : (g : Dag) (past : Past) (a : AttemptId) → a.task.vertex.0 < length g.vertices → set_in (winners_view g past) a.task.vertex.0 a.task.index (Some a) ≡ winners_view g (Succeeded a ∷ past)
 announced_row g past a inside =

@@ -10,8 +10,9 @@
 --     notice_entry n             the line of a notice
 --     withdrawal_lines ..        the lines of a withdrawal, from the notices of a router
 --     fetch_event f              the event of a fetch
+--     after_stop s               the router once the master has stopped
 --     FitsEntry g e              a configuration that stands again has no more tasks than the plan gives
-use Rattle.std.specs.Prelude.{ℕ, ◌≤◌, Bool, ◌||◌, ◌==◌, ⊤, IsTrue, List, [], ◌∷◌, ◌++◌, map}
+use Rattle.std.specs.Prelude.{ℕ, ◌≤◌, Bool, ◌||◌, ◌==◌, ⊤, IsTrue, List, [], ◌∷◌, ◌++◌, map, Option, None}
 use Rattle.std.specs.List.{filter, filter_map}
 use Rattle.tez_ids.specs.declared.AttemptId.{AttemptId}
 use Rattle.tez_plan.specs.Dag.{Dag, tasks_of as planned}
@@ -80,6 +81,15 @@ kill_lines past a = Killed a Node ∷ Queued (next_attempt past a.task) ∷ []
 
 abbrev pub fetch_event : Fetch → CoreEvent
 fetch_event f = FetchInput f.attempt f.edge f.input
+
+-- ---- a stop
+
+abbrev pub no_winner : Option AttemptId → Option AttemptId
+no_winner w = None
+
+-- nothing is won, and nobody is admitted; the edges keep their managers until the next open
+abbrev pub after_stop : RouterState → RouterState
+after_stop s = record s { winners = map (map no_winner) s.winners; admitted = [] }
 
 -- ---- what a new master finds
 

@@ -16,26 +16,28 @@ ghost use Rattle.tez_plan.specs.Dag.{Dag, target_of, tasks_of as planned};
 ghost use Rattle.tez_plan.specs.Faults.{IsValid};
 ghost use Rattle.tez_conf.specs.declared.values.ConfValues.{ConfValues};
 ghost use Rattle.tez_vman.specs.declared.seen.Config.{Config};
+ghost use Rattle.tez_events.specs.declared.StopCause.{StopCause};
 ghost use Rattle.tez_events.specs.declared.Entry.{Entry};
-ghost use Rattle.tez_events.specs.declared.Entry.TheVariants.{Stands, Carried, Kept, NodeLost, ReadError};
+ghost use Rattle.tez_events.specs.declared.Entry.TheVariants.{Stands, Carried, Kept, NodeLost, ReadError, Stopped};
 ghost use Rattle.tez_events.specs.declared.CoreEvent.{CoreEvent};
 ghost use Rattle.tez_events.specs.declared.CoreEvent.TheVariants.{Configure, Queue, Place, Fetch, Send, Preempt, Fail, LoseNode, LoseOutput, Ready, CommitStart, Publish, Finish, Purge};
 ghost use Rattle.tez_history.specs.History.{Past, extend, stage, winner, life, is_fetched, is_committing};
 ghost use Rattle.tez_history.specs.Runs.{Standing, opened_at, standing_entries};
-ghost use Rattle.tez_history.specs.Derived.{Input, is_task, inputs, waiting_attempts, is_waiting, is_processing, is_on_shelf, all_fetched, notices};
+ghost use Rattle.tez_history.specs.Derived.{starts_epoch, Input, is_task, inputs, waiting_attempts, is_waiting, is_processing, is_on_shelf, all_fetched, notices};
 ghost use Rattle.tez_history.specs.Steps.{enabled, entries_of, done_entries, withdrawal, winner_behind, is_running, some_fetch, some_send};
-ghost use Rattle.tez_history.specs.Rules.{is_start};
 ghost use Rattle.tez_history.specs.Follows.{IsMade, MayFollow};
 ghost use Rattle.tez_router.specs.State.{RouterState};
 ghost use Rattle.tez_router.specs.Planned.{planned_router};
 ghost use Rattle.tez_router.specs.Table.{after_announce, after_withdraw, after_admit, after_dismiss, after_fetched, source_in, fetched_in, missing_in, notices_in, without, fetches_in, first_complete};
 ghost use Rattle.tez_router_view.specs.View.{router_view, links_view, FitsPlan};
-ghost use Rattle.tez_router_view.specs.Events.{after_set_edges, CanSetEdges, links_at, after_announces, after_dismisses, after_withdraws, holders_on, winners_on, notice_entry, withdrawal_lines, kill_lines, fetch_event, FitsEntry};
+ghost use Rattle.tez_router_view.specs.Events.{after_set_edges, CanSetEdges, links_at, after_announces, after_dismisses, after_withdraws, holders_on, winners_on, notice_entry, withdrawal_lines, kill_lines, fetch_event, after_stop, FitsEntry};
 
-/// Where a run begins, and where a master opens or stops, the router is that of the plan.
+/// Where a run begins, and where a master opens, the router is that of the plan. After a stop nothing
+/// is won and nobody is admitted, and the edges keep their managers until the next open.
 pub fn router_begins()
     ensures first { (g : Dag) → router_view g [] ≡ planned_router g }
-    ensures start { (g : Dag) (past : Past) (e : Entry) → is_start e ≡ true → router_view g (e ∷ past) ≡ planned_router g }
+    ensures start { (g : Dag) (past : Past) (e : Entry) → starts_epoch e ≡ true → router_view g (e ∷ past) ≡ planned_router g }
+    ensures stop { (g : Dag) (past : Past) (cause : StopCause) → router_view g (Stopped cause ∷ past) ≡ after_stop (router_view g past) }
 {}
 
 /// A new master that goes on from what it finds gives each edge the manager of the configurations that
