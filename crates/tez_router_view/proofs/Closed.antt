@@ -1,6 +1,6 @@
 -- A node that is lost while no master is open: nobody holds a place, and nothing is won.
 use Rattle.std.specs.Prelude.{◌≡◌, ℕ, suc, true, List, [], ◌∷◌, ◌++◌, Option, Some, None, refl}
-use Rattle.std.specs.List.{filter, filter_map, flat_map}
+use Rattle.std.specs.List.{filter, flat_map}
 use Rattle.std.proofs.Common.{ap, sym, ◌∙◌}
 use Rattle.tez_ids.specs.declared.TaskId.{TaskId}
 use Rattle.tez_ids.specs.declared.AttemptId.{AttemptId}
@@ -10,7 +10,7 @@ use Rattle.tez_plan.specs.Dag.{Dag}
 use Rattle.tez_conf.specs.declared.values.ConfValues.{ConfValues}
 use Rattle.tez_history.specs.History.{Past, extend, winner, holder, life}
 use Rattle.tez_history.specs.Derived.{tasks, places_on, is_on_node}
-use Rattle.tez_history.specs.Steps.{each_after, killed_by_node, kill_at, withdrawn_if, withdraw_lost, node_kills, node_withdrawals, node_loss_entries}
+use Rattle.tez_history.specs.Steps.{each_after, killed_by_node, kill_at, withdrawn_if, withdraw_lost, node_withdrawals, node_loss_entries}
 use Rattle.tez_history.specs.Rules.{is_at_start}
 use Rattle.tez_laws.proofs.Places.{none_held_at_start}
 use Rattle.tez_router.specs.State.{RouterState}
