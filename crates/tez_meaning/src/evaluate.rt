@@ -8,13 +8,13 @@ use crate::job::Job;
 use crate::reads::reads_of;
 use std::alloc::{AllocError, Global};
 use tez_ids::{Bytes, Name, VertexId};
-use tez_operators::{ProcessFault, process};
-use tez_plan::{Program, VertexSpec, topo};
+use tez_plain::{PlainFault, evaluate};
+use tez_plan::{VertexSpec, topo};
 use tez_record::{Records, bag_text};
 
 /// The text of each sink, in the order of vertices, or the first vertex in the order of the plan
 /// that meets a bad record. It keeps the bag of every vertex until the end, and copies a bag once
-/// for each edge that it goes along; beside that it costs what `process` costs at each vertex.
+/// for each edge that it goes along; beside that it costs what `evaluate` costs at each vertex.
 pub fn meaning(alloc: Global, job: &Job) -> Result<Vec<(Name, Bytes)>, MeaningFault>
     ensures texts { IfOk result (λ texts. texts.items ≡ sink_texts job.now) }
     ensures defined { IfOk result (λ texts. IsDefined job.now) }
@@ -76,29 +76,15 @@ fn vertex_value(
     ensures bad { IfErr result (IsBadAt job.now v values.now) }
 {
     let vertex = &job.plan().vertices()[v.0 as usize];
-    let program = match program_of(alloc, vertex) {
-        Ok(program) => program,
-        Err(_) => return Err(MeaningFault::NoMemory),
-    };
     let reads = match reads_of(alloc, job, v, vertex, values) {
         Ok(reads) => reads,
         Err(_) => return Err(MeaningFault::NoMemory),
     };
-    match process(alloc, &program, &reads.keys, &reads.inputs) {
+    match evaluate(alloc, &vertex.head, vertex.steps.as_slice(), &reads) {
         Ok(bag) => Ok(bag),
-        Err(ProcessFault::BadRecord(_)) => Err(MeaningFault::Bad { vertex: v }),
-        Err(ProcessFault::NoMemory) => Err(MeaningFault::NoMemory),
+        Err(PlainFault::BadRecord(_)) => Err(MeaningFault::Bad { vertex: v }),
+        Err(PlainFault::NoMemory) => Err(MeaningFault::NoMemory),
     }
-}
-
-fn program_of(alloc: Global, vertex: &VertexSpec) -> Result<Program, AllocError>
-    ensures head { IfOk result (λ program. program.head ≡ vertex.now.head) }
-    ensures steps { IfOk result (λ program. program.steps ≡ vertex.now.steps) }
-{
-    Ok(Program {
-        head: vertex.head.copy(alloc)?,
-        steps: vertex.steps.copy(alloc)?,
-    })
 }
 
 /// The name and text of each sink.

@@ -1,28 +1,19 @@
 // What the head of a vertex reads, where the bags of its sources are known.
-ghost use Rattle.std.specs.Prelude.{◌≡◌, ◌≤◌, ◌==◌, ◌&&◌, ◌++◌, true, false, [], Some, length, map, slice_get, IfOk, OnOk};
+ghost use Rattle.std.specs.Prelude.{◌≡◌, ◌≤◌, ◌==◌, ◌&&◌, ◌++◌, [], length, IfOk, OnOk};
 ghost use Rattle.std.specs.List.{filter, find, flat_map, position};
 ghost use Rattle.std.specs.Option.{option_map_or};
 ghost use Rattle.std.specs.Str.{bytes_eq};
 ghost use Rattle.tez_record.specs.Line.{lines};
 ghost use Rattle.tez_plan.specs.Dag.{from, is_broadcast};
-ghost use Rattle.tez_plan.specs.Faults.{IsValid};
-ghost use Rattle.tez_operators.specs.Process.{reads};
-ghost use Rattle.tez_meaning.specs.Value.{inputs_of, is_left, lines_of as lines_in};
-ghost use Rattle.tez_meaning.specs.Known.{known_in, is_on_side, is_ahead, is_beside, keyed, from_source, from_vertex};
+ghost use Rattle.tez_meaning.specs.Value.{inputs_of, is_left, columns_of, lines_of as lines_in};
+ghost use Rattle.tez_meaning.specs.Known.{known_in, is_on_side, is_ahead, is_beside};
 
 use crate::job::Job;
 use std::alloc::{AllocError, Global};
 use tez_ids::{Bytes, EdgeId, Name, VertexId};
-use tez_operators::{Inputs, Primary};
+use tez_plain::HeadReads;
 use tez_plan::{Columns, EdgeSpec, Head, Plan, VertexSpec};
 use tez_record::{Records, lines};
-
-/// What a program is given: the vertices that feed it, each with its key columns, and the records.
-#[derive(Drop)]
-pub struct Reads {
-    pub keys: Vec<(VertexId, Columns)>,
-    pub inputs: Inputs,
-}
 
 /// What the head of a vertex reads, where its sources made what `values` has. Copies each list.
 pub fn reads_of(
@@ -31,62 +22,64 @@ pub fn reads_of(
     v: VertexId,
     vertex: &VertexSpec,
     values: &[Records],
-) -> Result<Reads, AllocError>
-    requires valid { IsValid job.now.plan }
-    requires few { length job.now.plan.edges ≤ 256 }
-    requires vertex { slice_get job.now.plan.vertices v.0 ≡ Some vertex.now }
-    ensures { IfOk result (λ r. reads vertex.now.head r.keys.items r.inputs.primary r.inputs.side ≡ inputs_of job.now v.0 vertex.now (known_in values.now)) }
+) -> Result<HeadReads, AllocError>
+    requires { length job.now.plan.edges ≤ 256 }
+    ensures { IfOk result (λ r. r ≡ inputs_of job.now v.0 vertex.now (known_in values.now)) }
 {
-    let keys = keys_of(alloc, job.plan(), v, &vertex.head)?;
-    let primary = primary_of(alloc, job, vertex, &keys, values)?;
-    let side = side_of(alloc, job.plan(), v, values)?;
-    Ok(Reads {
-        keys,
-        inputs: Inputs {
-            primary,
-            side: Some(side),
-        },
-    })
+    let plan = job.plan();
+    let head = &vertex.head;
+    let mut primary = source_of(alloc, job, vertex)?;
+    push_ahead(&mut primary, plan, v, head, true, values)?;
+    let mut partner = Records::new(alloc);
+    push_ahead(&mut partner, plan, v, head, false, values)?;
+    let columns = columns_ahead(alloc, plan, v, head, true)?;
+    let partner_columns = columns_ahead(alloc, plan, v, head, false)?;
+    let side = side_of(alloc, plan, v, values)?;
+    Ok(HeadReads::new(columns, primary, partner_columns, partner, side))
 }
 
-/// The sources of a vertex with their key columns, those to the left of its head first.
-fn keys_of(
-    alloc: Global,
+/// Adds the records of each source on one side of a head.
+fn push_ahead(
+    records: &mut Records,
     plan: &Plan,
     v: VertexId,
     head: &Head,
-) -> Result<Vec<(VertexId, Columns)>, AllocError>
+    left: bool,
+    values: &[Records],
+) -> Result<(), AllocError>
     requires { length plan.now.edges ≤ 256 }
-    ensures { IfOk result (λ keys. keys.items ≡ map (keyed plan.now) (filter (is_ahead plan.now v.0 head.now true) plan.now.edges) ++ map (keyed plan.now) (filter (is_ahead plan.now v.0 head.now false) plan.now.edges)) }
+    ensures { OnOk result (records.new ≡ records.old ++ flat_map (λ e. known_in values.now (from plan.now e)) (filter (is_ahead plan.now v.0 head.now left) plan.now.edges)) }
 {
-    let mut keys = Vec::new(alloc);
-    push_keys(&mut keys, alloc, plan, v, head, true)?;
-    push_keys(&mut keys, alloc, plan, v, head, false)?;
-    Ok(keys)
+    let edges = plan.edges();
+    for e in 0..edges.len() {
+        let (source, target) = plan.ends(EdgeId(e as u16));
+        if leads_ahead(&edges[e], target, v, head, left) {
+            append_known(records, values, source)?;
+        }
+    }
+    Ok(())
 }
 
-/// Adds the sources on one side of a head.
-fn push_keys(
-    keys: &mut Vec<(VertexId, Columns)>,
+/// The key columns of the first edge on one side of a head, and none where there is none.
+fn columns_ahead(
     alloc: Global,
     plan: &Plan,
     v: VertexId,
     head: &Head,
     left: bool,
-) -> Result<(), AllocError>
+) -> Result<Columns, AllocError>
     requires { length plan.now.edges ≤ 256 }
-    ensures { OnOk result (keys.new.items ≡ keys.old.items ++ map (keyed plan.now) (filter (is_ahead plan.now v.0 head.now left) plan.now.edges)) }
+    ensures { IfOk result (λ columns. columns ≡ columns_of (filter (is_ahead plan.now v.0 head.now left) plan.now.edges)) }
 {
     let edges = plan.edges();
     for e in 0..edges.len() {
         let edge = &edges[e];
-        let (source, target) = plan.ends(EdgeId(e as u16));
+        let (_source, target) = plan.ends(EdgeId(e as u16));
         if leads_ahead(edge, target, v, head, left) {
-            let columns = Columns::new(Vec::from_slice(alloc, edge.movement.keys())?);
-            keys.push((source, columns))?;
+            return Ok(Columns::new(Vec::from_slice(alloc, edge.movement.keys())?));
         }
     }
-    Ok(())
+    Ok(Columns::new(Vec::new(alloc)))
 }
 
 fn leads_ahead(edge: &EdgeSpec, target: VertexId, v: VertexId, head: &Head, left: bool) -> bool
@@ -124,40 +117,13 @@ fn is_left(head: &Head, edge: &EdgeSpec) -> bool
     }
 }
 
-/// The lines of the source file, where there is one, and the records of each vertex that feeds.
-fn primary_of(
-    alloc: Global,
-    job: &Job,
-    vertex: &VertexSpec,
-    keys: &[(VertexId, Columns)],
-    values: &[Records],
-) -> Result<Primary, AllocError>
-    ensures { IfOk result (λ primary. primary ≡ from_source job.now vertex.now.source ++ map (from_vertex values.now) keys.now) }
+/// The lines of the source file of a vertex, and none where it has none.
+fn source_of(alloc: Global, job: &Job, vertex: &VertexSpec) -> Result<Records, AllocError>
+    ensures { IfOk result (λ rs. rs ≡ option_map_or (lines_in job.now) vertex.now.source []) }
 {
-    let mut parts = source_part(alloc, job, vertex)?;
-    for key in keys {
-        let mut records = Records::new(alloc);
-        append_known(&mut records, values, key.0)?;
-        parts.push((Some(key.0), records))?;
-    }
-    Ok(Primary::new(parts))
-}
-
-fn source_part(
-    alloc: Global,
-    job: &Job,
-    vertex: &VertexSpec,
-) -> Result<Vec<(Option<VertexId>, Records)>, AllocError>
-    ensures { IfOk result (λ parts. parts.items ≡ from_source job.now vertex.now.source) }
-{
-    let mut parts = Vec::new(alloc);
     match &vertex.source {
-        None => Ok(parts),
-        Some(name) => {
-            let records = source_lines(alloc, job, name.as_str())?;
-            parts.push((None, records))?;
-            Ok(parts)
-        }
+        None => Ok(Records::new(alloc)),
+        Some(name) => source_lines(alloc, job, name.as_str()),
     }
 }
 

@@ -1,0 +1,7 @@
+pub mod StepLemmas
+pub mod WordLemmas
+pub mod NumberLemmas
+pub mod OrderLemmas
+pub mod KeyLemmas
+pub mod RowLemmas
+pub mod PairLemmas

@@ -1,0 +1,5 @@
+pub mod Reads
+pub mod Answer
+pub mod Keyed
+pub mod Runs
+pub mod Words

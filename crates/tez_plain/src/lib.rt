@@ -1,0 +1,22 @@
+//! Heads and steps as plain programs over whole bags: slow and simple, straight from their
+//! definitions. The meaning of a job is worked out by them.
+#![tactic(auto)]
+
+mod fault;
+mod heads;
+mod keyed;
+mod least;
+mod pairs;
+mod program;
+mod reads;
+mod runs;
+mod steps;
+#[cfg(test)]
+mod tests;
+mod words;
+
+pub use fault::PlainFault;
+pub use heads::evaluate_head;
+pub use program::evaluate;
+pub use reads::HeadReads;
+pub use steps::evaluate_step;
