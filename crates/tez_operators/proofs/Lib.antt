@@ -5,3 +5,4 @@ pub mod RowLemmas
 pub mod ProcessLemmas
 pub mod PartLemmas
 pub mod HeadLemmas
+pub mod FuseLemmas

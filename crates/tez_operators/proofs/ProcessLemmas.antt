@@ -33,23 +33,3 @@ bad-same (s ∷ steps) xs ys e = ap₂ first_or (filter-same (is_bad_for s) xs y
 -- where no record of the head is bad, the first bad one is that of the steps, over the rows in any order
 pub first_of_steps : (h : Head) (steps : List Step) (i : HeadInputs) (rows : List (List ℕ)) → sort (filter (is_bad_for_head h) i.primary) ≡ [] → sort rows ≡ sort (head_rows h i) → least_of (bad_in_steps steps rows) ≡ first_bad h steps i
 first_of_steps h steps i rows none same = bad-same steps rows (head_rows h i) same ∙ ap (λ xs. first_or xs (least_of (bad_in_steps steps (head_rows h i)))) (sym none)
-
--- a step of the loop over steps
-module _ (steps : List Step) (i : ℕ) (s : Step) (made : List (List ℕ)) (low : i < length steps) (is : s ≡ get_or steps i s) where
-  here : drop i steps ≡ s ∷ drop (i + 1) steps
-  here = drop_more steps i s low ∙ ap (λ x. x ∷ drop (i + 1) steps) (sym is)
-
-  pub run_more : (now : List (List ℕ)) → now ≡ flat_map (step_rows s) made → run (drop (i + 1) steps) now ≡ run (drop i steps) made
-  run_more now e = ap (run (drop (i + 1) steps)) e ∙ sym (ap (λ xs. run xs made) here)
-
-  bad_here : least_of (bad_in_steps (drop i steps) made) ≡ first_or (sort (filter (is_bad_for s) made)) (least_of (bad_in_steps (drop (i + 1) steps) (flat_map (step_rows s) made)))
-  bad_here = ap (λ xs. least_of (bad_in_steps xs made)) here
-
-  pub bad_more : (now : List (List ℕ)) → now ≡ flat_map (step_rows s) made → sort (filter (is_bad_for s) made) ≡ [] → least_of (bad_in_steps (drop (i + 1) steps) now) ≡ least_of (bad_in_steps (drop i steps) made)
-  bad_more now e none =
-      ap (λ xs. least_of (bad_in_steps (drop (i + 1) steps) xs)) e
-      ∙ sym (ap (λ xs. first_or xs (least_of (bad_in_steps (drop (i + 1) steps) (flat_map (step_rows s) made)))) none)
-      ∙ sym bad_here
-
-  pub bad_found : (fault : ProcessFault) → IsBadAnswer fault (first_or (sort (filter (is_bad_for s) made)) None) → IsBadAnswer fault (least_of (bad_in_steps (drop i steps) made))
-  bad_found fault h = subst (IsBadAnswer fault) (sym bad_here) (bad_later fault (sort (filter (is_bad_for s) made)) (least_of (bad_in_steps (drop (i + 1) steps) (flat_map (step_rows s) made))) h)

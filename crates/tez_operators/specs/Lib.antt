@@ -3,3 +3,4 @@ pub mod Totals
 pub mod Groups
 pub mod Members
 pub mod Words
+pub mod Fuse

@@ -3,6 +3,8 @@
 
 mod bad;
 mod fault;
+mod filters;
+mod fuse;
 mod group_key;
 mod groups;
 mod heads;

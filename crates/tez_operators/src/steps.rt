@@ -1,46 +1,53 @@
 // Steps over records.
-ghost use Rattle.std.specs.Prelude.{◌≡◌, ◌∷◌, [], None, IfOk, IfErr, OnOk};
-ghost use Rattle.std.specs.List.{filter, flat_map};
-ghost use Rattle.tez_record.specs.Field.{key};
-ghost use Rattle.tez_record.specs.Bag.{sort};
-ghost use Rattle.tez_plan.specs.declared.parts.Step.TheVariants.{Tokenise, Project};
-ghost use Rattle.tez_values.specs.Steps.{holds, reads_number, is_bad_for, step_rows, run, bad_in_steps};
-ghost use Rattle.tez_values.specs.Program.{first_or, least_of};
+ghost use Rattle.std.specs.Prelude.{◌≡◌, ◌<◌, None, IfOk, IfErr, OnOk, length};
+ghost use Rattle.std.specs.List.{filter};
+ghost use Rattle.tez_values.specs.Steps.{is_bad_for, run, bad_in_steps};
+ghost use Rattle.tez_values.specs.Program.{least_of};
 ghost use Rattle.tez_operators.specs.Process.{IsBadAnswer};
+ghost use Rattle.tez_operators.specs.Fuse.{IsPass};
 
 use crate::bad::least;
 use crate::fault::ProcessFault;
-use crate::words::push_words;
+use crate::filters::reads_number;
+use crate::fuse::{fused, pass_len};
 use std::alloc::{AllocError, Global};
-use tez_plan::{Step, Test};
-use tez_record::{Records, contains, field, number};
+use tez_plan::Step;
+use tez_record::{Records, number};
 
-/// What the steps make of the rows, or the least bad record of the first step that has one.
+/// What the steps make of the rows, or the least bad record of the first step that has one. It
+/// goes over the rows once for each step that reads a number, with the steps up to the next such.
 pub fn run_steps(alloc: Global, steps: &[Step], rows: Records) -> Result<Records, ProcessFault>
     ensures rows { IfOk result (λ made. made ≡ run steps.now rows) }
     ensures no_bad { OnOk result (least_of (bad_in_steps steps.now rows) ≡ None) }
     ensures bad { IfErr result (λ fault. IsBadAnswer fault (least_of (bad_in_steps steps.now rows))) }
 {
     let mut made = rows;
-    for step in steps {
-        match run_step(alloc, step, &made) {
+    let mut done = 0;
+    while done < steps.len() {
+        let left = &steps[done..];
+        let count = pass_len(left);
+        match run_pass(alloc, &left[..count], &made) {
             Ok(next) => made = next,
             Err(fault) => return Err(fault),
         }
+        done += count;
     }
     Ok(made)
 }
 
-fn run_step(alloc: Global, step: &Step, rows: &Records) -> Result<Records, ProcessFault>
-    ensures rows { IfOk result (λ made. made ≡ flat_map (step_rows step.now) rows.now) }
-    ensures no_bad { OnOk result (sort (filter (is_bad_for step.now) rows.now) ≡ []) }
-    ensures bad { IfErr result (λ fault. IsBadAnswer fault (first_or (sort (filter (is_bad_for step.now) rows.now)) None)) }
+/// Steps of which each past the first is plain, in one pass. Only the first can have a bad record.
+fn run_pass(alloc: Global, steps: &[Step], rows: &Records) -> Result<Records, ProcessFault>
+    requires some { 0 < length steps.now }
+    requires pass { IsPass steps.now }
+    ensures rows { IfOk result (λ made. made ≡ run steps.now rows.now) }
+    ensures no_bad { OnOk result (least_of (bad_in_steps steps.now rows.now) ≡ None) }
+    ensures bad { IfErr result (λ fault. IsBadAnswer fault (least_of (bad_in_steps steps.now rows.now))) }
 {
-    let bad = bad_records(alloc, step, rows)?;
+    let bad = bad_records(alloc, &steps[0], rows)?;
     if let Some(line) = least(alloc, &bad)? {
         return Err(ProcessFault::BadRecord(line));
     }
-    Ok(step_over(alloc, step, rows)?)
+    Ok(fused(alloc, steps, rows)?)
 }
 
 fn bad_records(alloc: Global, step: &Step, rows: &Records) -> Result<Records, AllocError>
@@ -57,70 +64,4 @@ fn is_bad(step: &Step, line: &[u8]) -> bool
         Step::Filter { field, test } => reads_number(test) && number(line, *field).is_none(),
         Step::Tokenise | Step::Project { .. } => false,
     }
-}
-
-fn reads_number(test: &Test) -> bool
-    ensures { result ≡ reads_number test.now }
-{
-    match test {
-        Test::Lt(_) | Test::Gt(_) => true,
-        Test::Eq(_) | Test::Ne(_) | Test::Contains(_) => false,
-    }
-}
-
-/// What a step makes of the rows, in their order.
-fn step_over(alloc: Global, step: &Step, rows: &Records) -> Result<Records, AllocError>
-    ensures { IfOk result (λ made. made ≡ flat_map (step_rows step.now) rows.now) }
-{
-    match step {
-        Step::Tokenise => tokenise(alloc, rows),
-        Step::Filter { field, test } => keep(alloc, rows, *field, test),
-        Step::Project { cols } => project(alloc, rows, cols.as_slice()),
-    }
-}
-
-/// The rows of which the test of a field holds.
-fn keep(alloc: Global, rows: &Records, i: u16, test: &Test) -> Result<Records, AllocError>
-    ensures { IfOk result (λ kept. kept ≡ filter (λ r. holds test.now r i) rows.now) }
-{
-    rows.kept(alloc, |line| holds(test, line, i))
-}
-
-/// Whether the test holds of a field. One of numbers does not where there is no number.
-fn holds(test: &Test, line: &[u8], i: u16) -> bool
-    ensures { result ≡ holds test.now line.now i }
-{
-    match test {
-        Test::Eq(value) => field(line, i) == value.as_slice(),
-        Test::Ne(value) => field(line, i) != value.as_slice(),
-        Test::Contains(value) => contains(field(line, i), value.as_slice()),
-        Test::Lt(value) => match number(line, i) {
-            Some(n) => n < *value,
-            None => false,
-        },
-        Test::Gt(value) => match number(line, i) {
-            Some(n) => *value < n,
-            None => false,
-        },
-    }
-}
-
-fn tokenise(alloc: Global, rows: &Records) -> Result<Records, AllocError>
-    ensures { IfOk result (λ made. made ≡ flat_map (step_rows Tokenise) rows.now) }
-{
-    let mut made = Records::new(alloc);
-    for line in rows.iter() {
-        push_words(&mut made, line)?;
-    }
-    Ok(made)
-}
-
-fn project(alloc: Global, rows: &Records, cols: &[u16]) -> Result<Records, AllocError>
-    ensures { IfOk result (λ made. made ≡ flat_map (λ r. key cols.now r ∷ []) rows.now) }
-{
-    let mut made = Records::new(alloc);
-    for line in rows.iter() {
-        made.push_key(line, cols)?;
-    }
-    Ok(made)
 }

@@ -242,3 +242,39 @@ fn tests_of_bytes(rt: HostRuntime) -> Result<(), AllocError> {
     assert!(rt; keeps(alloc, Test::Contains(b), b"ab\nc\n", b"ab\n")?);
     Ok(())
 }
+
+/// Whether a list of steps makes this text of one list.
+fn chain(alloc: Global, items: Vec<Step>, text: &[u8], want: &[u8]) -> Result<bool, AllocError> {
+    let program = Program {
+        head: Head::Each,
+        steps: Steps::new(items),
+    };
+    let inputs = inputs(alloc, text, b"", b"")?;
+    makes(alloc, &program, &[], &inputs, want)
+}
+
+#[test]
+fn steps_in_one_pass(rt: HostRuntime) -> Result<(), AllocError> {
+    let alloc = rt.alloc();
+    let text = b"k\ta 7\nk\tb\nx\ta 7\nk\ta c\n".as_slice();
+    let mut items = Vec::new(alloc);
+    let k = Bytes::new(Vec::from_slice(alloc, b"k")?);
+    let a = Bytes::new(Vec::from_slice(alloc, b"a")?);
+    items.push(Step::Filter {
+        field: 0,
+        test: Test::Eq(k),
+    })?;
+    items.push(Step::Project {
+        cols: columns(alloc, &[1])?,
+    })?;
+    items.push(Step::Tokenise)?;
+    items.push(Step::Filter {
+        field: 0,
+        test: Test::Ne(a),
+    })?;
+    items.push(Step::Project {
+        cols: columns(alloc, &[0])?,
+    })?;
+    assert!(rt; chain(alloc, items, text, b"7\nb\nc\n")?);
+    Ok(())
+}
