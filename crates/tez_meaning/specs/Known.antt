@@ -4,15 +4,15 @@
 --     is_ahead p v head left e      e leads into v past its side: to the left of its head, or else to the right
 --     is_beside p v e               e leads into the side of v
 --     AreValues job values          a table has the bag of each vertex
-use Rattle.std.specs.Prelude.{◌≡◌, ⊤, ℕ, ◌<◌, ◌==◌, ◌&&◌, Bool, false, not, cond, List, [], ◌∷◌, length, IsTrue, Option, Some, None, slice_get, slice_index_or}
+use Rattle.std.specs.Prelude.{◌≡◌, ⊤, ℕ, ◌<◌, ◌==◌, ◌&&◌, Bool, false, not, cond, List, [], length, IsTrue, slice_get, slice_index_or}
 use Rattle.std.specs.Option.{option_map_or}
 use Rattle.tez_ids.specs.declared.VertexId.{VertexId}
 use Rattle.tez_plan.specs.declared.parts.EdgeSpec.{EdgeSpec}
 use Rattle.tez_plan.specs.declared.parts.Head.{Head}
-use Rattle.tez_plan.specs.Dag.{Dag, from, to, vertex, is_broadcast, keys_of}
+use Rattle.tez_plan.specs.Dag.{Dag, to, is_broadcast}
 use Rattle.tez_values.specs.Program.{is_bad}
 use Rattle.tez_meaning.specs.Jobs.{Job}
-use Rattle.tez_meaning.specs.Value.{is_left, inputs_of, lines_of, value}
+use Rattle.tez_meaning.specs.Value.{is_left, inputs_of, value}
 use Rattle.tez_meaning.specs.declared.fault.MeaningFault.{MeaningFault}
 use Rattle.tez_meaning.specs.declared.fault.MeaningFault.TheVariants.{Bad, NoMemory}
 
@@ -34,17 +34,6 @@ is_ahead p v head left e = (to p e == v) && is_on_side head left e
 
 abbrev pub is_beside : Dag → ℕ → EdgeSpec → Bool
 is_beside p v e = (to p e == v) && is_broadcast e
-
--- the source of an edge, with the key columns
-abbrev pub keyed : Dag → EdgeSpec → VertexId × List ℕ
-keyed p e = (vertex (from p e), keys_of e)
-
--- the records of a source file, and those of a vertex, as parts of what a head reads
-abbrev pub from_source : Job → Option (List ℕ) → List (Option VertexId × List (List ℕ))
-from_source job source = option_map_or (λ name. (None, lines_of job name) ∷ []) source []
-
-abbrev pub from_vertex : Table → VertexId × List ℕ → Option VertexId × List (List ℕ)
-from_vertex values k = (Some k.0, known_in values k.0.0)
 
 -- the vertex is bad where its sources make what is known
 abbrev pub IsBadAt : Job → VertexId → Table → MeaningFault → Type 0
