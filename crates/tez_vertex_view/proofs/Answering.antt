@@ -100,7 +100,7 @@ pub read_task : (g : Dag) (c : ConfValues) (past : Past) (v i : ℕ) → is_conf
 read_task g c past v i is l =
     get_below (λ j. task_view c (task v j) past) (tasks_in (config v past)) i (subst (λ n. i < n) (counted g v (config v past) (shape (planned g v) 1) is) l)
 
-live_same : (past : Past) (o : Option AttemptId) → option_map (λ l. l.attempt) (option_map (λ a. let l : Live = record { attempt = a; machine = machine_at (stage a past) } in l) o) ≡ o
+pub live_same : (past : Past) (o : Option AttemptId) → option_map (λ l. l.attempt) (option_map (λ a. let l : Live = record { attempt = a; machine = machine_at (stage a past) } in l) o) ≡ o
 live_same past None = refl
 live_same past (Some a) = refl
 

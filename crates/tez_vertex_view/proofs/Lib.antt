@@ -6,3 +6,4 @@ pub mod Opening
 pub mod Pairs
 pub mod Stepping
 pub mod Taking
+pub mod Telling

@@ -3,11 +3,12 @@
 --     vertex_view c v past      a vertex with its tasks, none before it is configured
 --     vertices_view g c past    the vertices of the plan, by number
 --     idle s                    a vertex once the master has stopped
+--     live_in vs, winners_in vs  the live attempts and the winners in order of tasks
 --     change vs v f             the vertices once v changed by f
 --     take_in vs t e            the vertices once task t took an event
 --     FailedAreTasks g past     while the master is up, only tasks of configured vertices have failed
 use Rattle.std.specs.Prelude.{◌≡◌, ⊤, ℕ, Bool, true, false, nat_lt, nat_le, List, map, slice_get, slice_set, Option, Some, None}
-use Rattle.std.specs.List.{list_any, fold, filter, filter_map}
+use Rattle.std.specs.List.{list_any, fold, filter, filter_map, flat_map}
 use Rattle.std.specs.Option.{option_map, option_map_or}
 use Rattle.tez_ids.specs.declared.TaskId.{TaskId}
 use Rattle.tez_ids.specs.declared.AttemptId.{AttemptId}
@@ -22,6 +23,7 @@ use Rattle.tez_task.specs.declared.Live.{Live}
 use Rattle.tez_task.specs.declared.TaskEvent.{TaskEvent}
 use Rattle.tez_task.specs.declared.TaskEvent.TheVariants.{Kill, Lose}
 use Rattle.tez_task.specs.TaskState.{TaskState}
+use Rattle.tez_task.specs.Table.{live_of}
 use Rattle.tez_vertex.specs.Vertex.{Vertex}
 use Rattle.tez_vertex.specs.Table.{new_vertex, task_of, after_configure, after_take, after_restore}
 use Rattle.tez_history.specs.Shape.{numbers_below, vertices}
@@ -37,6 +39,14 @@ machine_at (Waits p) = Placed
 machine_at (Runs p) = Processing
 machine_at Unknown = Killed
 machine_at Ended = Killed
+
+-- how far an attempt has come, where it is a live one
+abbrev pub come : Stage → Option AttemptState
+come InQueue = Some Queued
+come (Waits p) = Some Placed
+come (Runs p) = Some Processing
+come Unknown = None
+come Ended = None
 
 abbrev pub live_view : TaskId → Past → Option Live
 live_view t past = option_map (λ a. record { attempt = a; machine = machine_at (stage a past) }) (live t past)
@@ -85,6 +95,13 @@ idle_task t = record t { live = None; winner = None }
 
 abbrev pub idle : Vertex → Vertex
 idle s = record s { tasks = map idle_task s.tasks }
+
+-- the live attempts and the winners of vertices, in order of their tasks
+abbrev pub live_in : List Vertex → List AttemptId
+live_in vs = flat_map (λ s. filter_map live_of s.tasks) vs
+
+abbrev pub winners_in : List Vertex → List AttemptId
+winners_in vs = flat_map (λ s. filter_map (λ t. t.winner) s.tasks) vs
 
 -- ---- one vertex of several changes
 

@@ -5,7 +5,7 @@
 #![tactic(auto)]
 
 ghost use Rattle.std.specs.Prelude.{◌≡◌, ◌<◌, ◌&&◌, nat_le, length, slice_get, map, max, ℕ, List, IsTrue, true, false, suc, [], Some, None};
-ghost use Rattle.std.specs.List.{list_all};
+ghost use Rattle.std.specs.List.{list_all, filter_map};
 ghost use Rattle.tez_ids.specs.declared.TaskId.{TaskId};
 ghost use Rattle.tez_ids.specs.declared.AttemptId.{AttemptId};
 ghost use Rattle.tez_ids.specs.declared.EdgeId.{EdgeId};
@@ -20,14 +20,14 @@ ghost use Rattle.tez_events.specs.declared.CoreEvent.{CoreEvent};
 ghost use Rattle.tez_ids.specs.Same.{task};
 ghost use Rattle.tez_task.specs.declared.TaskEvent.{TaskEvent};
 ghost use Rattle.tez_task.specs.declared.TaskTook.{TaskTook};
-ghost use Rattle.tez_task.specs.Table.{task_took, live_of, next_of};
+ghost use Rattle.tez_task.specs.Table.{task_took, live_of, next_of, state_of};
 ghost use Rattle.tez_history.specs.History.{Past, extend, stage, live, winner, failures, epoch, is_committing};
 ghost use Rattle.tez_history.specs.Runs.{Run, Found, Standing, opened_by, stopped, spent_in};
-ghost use Rattle.tez_history.specs.Derived.{is_processing, is_configured, is_vertex_done, task_count, next_attempt, is_on_shelf, configures};
+ghost use Rattle.tez_history.specs.Derived.{tasks, live_attempts, is_processing, is_configured, is_vertex_done, task_count, next_attempt, is_on_shelf, configures};
 ghost use Rattle.tez_history.specs.Steps.{enabled, entries_of, done_entries, winner_behind};
 ghost use Rattle.tez_history.specs.Follows.{IsMade, IsPlaced};
 ghost use Rattle.tez_laws.specs.Laws.{FewFailures};
-ghost use Rattle.tez_vertex_view.specs.View.{task_view, vertex_view, vertices_view, new_vertices, restored_vertices, idle, change, FailedAreTasks, FailedStand, take_in, kill_all, lose_all, held_there, lost_there};
+ghost use Rattle.tez_vertex_view.specs.View.{task_view, vertex_view, vertices_view, new_vertices, restored_vertices, idle, change, FailedAreTasks, FailedStand, take_in, kill_all, lose_all, held_there, lost_there, come, live_in, winners_in};
 ghost use Rattle.tez_vertex_view.specs.Elsewhere.{IsElsewhere};
 
 /// A task gets its first attempt.
@@ -111,11 +111,15 @@ pub fn answers_agree()
 {}
 
 /// What a vertex tells is what the history tells: its tasks by number, their live attempts and next
-/// ones, that it is done once every task has a winner, and that none is spent while failures are
-/// few.
+/// ones, how far an attempt has come, that it is done once every task has a winner, and that none is
+/// spent while failures are few. The live attempts and the winners come in order of tasks.
 pub fn readings_agree()
     ensures vertex { (g : Dag) (c : ConfValues) (past : Past) (v : ℕ) → v < length g.vertices → slice_get (vertices_view g c past) v ≡ Some (vertex_view c v past) }
     ensures task { (g : Dag) (c : ConfValues) (past : Past) (v i : ℕ) → is_configured v past ≡ true → i < task_count g v past → task_of (vertex_view c v past) i ≡ Some (task_view c (task v i) past) }
+    ensures count { (g : Dag) (c : ConfValues) (past : Past) (v : ℕ) → is_configured v past ≡ true → length (vertex_view c v past).tasks ≡ task_count g v past }
+    ensures state { (g : Dag) (c : ConfValues) (past : Past) (a : AttemptId) → IsMade g c past → state_of (task_view c a.task past).live a ≡ come (stage a past) }
+    ensures all_live { (g : Dag) (c : ConfValues) (past : Past) → live_in (vertices_view g c past) ≡ live_attempts g past }
+    ensures all_winners { (g : Dag) (c : ConfValues) (past : Past) → winners_in (vertices_view g c past) ≡ filter_map (λ t. winner t past) (tasks g past) }
     ensures live { (c : ConfValues) (past : Past) (t : TaskId) → live_of (task_view c t past) ≡ live t past }
     ensures next { (c : ConfValues) (past : Past) (t : TaskId) → next_of (task_view c t past) ≡ next_attempt past t }
     ensures done { (g : Dag) (c : ConfValues) (past : Past) (v : ℕ) → is_vertex_done g v past ≡ ((vertex_view c v past).configured && list_all has_winner (vertex_view c v past).tasks) }
