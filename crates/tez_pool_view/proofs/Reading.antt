@@ -7,13 +7,16 @@ use Rattle.std.proofs.lemmas.Bool.Decides.{nat_tests}
 use Rattle.std.proofs.lemmas.List.Folds.{find_at}
 use Rattle.std.proofs.lemmas.Option.{same_Some}
 use Rattle.tez_ids.specs.declared.AttemptId.{AttemptId}
+use Rattle.tez_ids.specs.declared.ContainerId.{ContainerId}
 use Rattle.tez_lists.specs.Numbers.{numbers_from}
 use Rattle.tez_lists.proofs.Tables.{get_each}
 use Rattle.tez_plan.specs.Dag.{Dag}
 use Rattle.tez_conf.specs.declared.values.ConfValues.{ConfValues}
+use Rattle.tez_events.specs.declared.CoreEvent.TheVariants.{Place as GivePlace}
 use Rattle.tez_history.specs.Shape.{numbers_below, places, is_vertex}
 use Rattle.tez_history.specs.History.{Past, Stage, Unknown, InQueue, Waits, Runs, Ended, stage, holder, container_of, life}
-use Rattle.tez_history.specs.Derived.{is_processing, is_free as free_in, places_on, is_configured}
+use Rattle.tez_history.specs.Derived.{is_queued, is_processing, is_free as free_in, places_on, is_configured}
+use Rattle.tez_history.specs.Steps.{enabled, is_running}
 use Rattle.tez_history.specs.Follows.{IsMade}
 use Rattle.tez_laws.specs.Laws.{place_in}
 use Rattle.tez_laws.proofs.OneLive.{one_live, placed_alive}
@@ -22,7 +25,7 @@ use Rattle.tez_laws.proofs.Places.{held, stands, in_place}
 use Rattle.tez_laws.proofs.Ranges.{live_scheduled, scheduled_is_task, configured_is_vertex}
 use Rattle.tez_laws.proofs.StepLaw.{both}
 use Rattle.tez_pool.specs.declared.place.Place.{Place}
-use Rattle.tez_pool.specs.Table.{who, holds, is_by, is_free, is_sent, sent_at, place_of, place_held, held_on}
+use Rattle.tez_pool.specs.Table.{who, holds, is_by, is_free, is_sent, sent_at, place_of, place_held, container_given, held_on}
 use Rattle.tez_pool.specs.Index.{held_at}
 use Rattle.tez_pool.specs.Victim.{AreIn}
 use Rattle.tez_pool_view.specs.View.{held_by, place_view, pool_view, standing}
@@ -63,8 +66,8 @@ pub who_held : (past : Past) (k : ℕ) (o : Option AttemptId) → who (record { 
 who_held past k None = refl
 who_held past k (Some a) = refl
 
-pub read_container : (c : ConfValues) (past : Past) (p : ℕ) → p < places c → option_map (λ x. x.container.0) (slice_get (pool_view c past).places p) ≡ Some (container_of c p past)
-read_container c past p b = ap (option_map (λ x. x.container.0)) (view_get c past p b)
+pub read_container : (c : ConfValues) (past : Past) (p : ℕ) → p < places c → option_map (λ x. x.container) (slice_get (pool_view c past).places p) ≡ Some (record { 0 = container_of c p past })
+read_container c past p b = ap (option_map (λ x. x.container)) (view_get c past p b)
 
 pub read_holder : (c : ConfValues) (past : Past) (p : ℕ) → p < places c → option_map who (slice_get (pool_view c past).places p) ≡ Some (holder p past)
 read_holder c past p b = ap (option_map who) (view_get c past p b) ∙ ap Some (who_held past (container_of c p past) (holder p past))
@@ -162,14 +165,39 @@ placed_at g c past a p m at =
     ap (λ o. option_map_or is_sent o false) there ∙ sent_is past (container_of c p past) (holder p past) a s.0 in
     ap (option_map (λ q. (q, sent_at (pool_view c past).places q))) found ∙ ap (λ b. Some (p, b)) was
 
+pub unheld : (g : Dag) (c : ConfValues) (past : Past) (a : AttemptId) → IsMade g c past → place_in (stage a past) ≡ None → place_held (pool_view c past).places a ≡ None
+unheld g c past a m at = place_found (holds a) c past ∙ find_nowhere (λ q. holds a (place_view c past q)) (numbers_below (places c)) (λ q. by q (holds a (place_view c past q)) refl) where
+  by : (q : ℕ) (b : Bool) → holds a (place_view c past q) ≡ b → holds a (place_view c past q) ≡ false
+  by q true t = let never_so : None ≡ Some q = sym at ∙ held_stands g c past a q m t in cc
+  by q false t = t
+
 nowhere : (g : Dag) (c : ConfValues) (past : Past) (a : AttemptId) → IsMade g c past → place_in (stage a past) ≡ None → place_of (pool_view c past).places a ≡ None
-nowhere g c past a m at =
-    ap (option_map (λ q. (q, sent_at (pool_view c past).places q)))
-    (place_found (holds a) c past ∙ find_nowhere (λ q. holds a (place_view c past q)) (numbers_below (places c)) (λ q. by q (holds a (place_view c past q)) refl))
+nowhere g c past a m at = ap (option_map (λ q. (q, sent_at (pool_view c past).places q))) (unheld g c past a m at)
+
+queued_nowhere : (s : Stage) → is_queued s ≡ true → place_in s ≡ None
+queued_nowhere InQueue h = refl
+queued_nowhere Unknown h = refl
+queued_nowhere (Waits p) h = cc
+queued_nowhere (Runs p) h = cc
+queued_nowhere Ended h = refl
+
+pub queued_unheld : (g : Dag) (c : ConfValues) (past : Past) (a : AttemptId) (p : ℕ) → IsMade g c past → enabled g c past (GivePlace a p) ≡ true → place_held (pool_view c past).places a ≡ None
+queued_unheld g c past a p m h = unheld g c past a m (queued_nowhere (stage a past) (both {x = is_queued (stage a past)} (both {x = is_running past} h).1).0)
+
+abbrev container : ℕ → ContainerId
+container k = record { 0 = k }
+
+free_given : (k : ℕ) (past : Past) (o : Option AttemptId) → is_none o ≡ true → (if is_none (held_by past o) then Some (container k) else None) ≡ Some (container k)
+free_given k past None h = refl
+free_given k past (Some a) h = cc
+
+pub given : (g : Dag) (c : ConfValues) (past : Past) (a : AttemptId) (p : ℕ) → enabled g c past (GivePlace a p) ≡ true → container_given (pool_view c past).places p ≡ Some (record { 0 = container_of c p past })
+given g c past a p h =
+    let k = both {x = nat_lt p (places c)} (both {x = is_queued (stage a past)} (both {x = is_running past} h).1).1 in
+    ap (option_and_then (λ x. if is_free x then Some x.container else None)) (view_get c past p (below p (places c) k.0)) ∙ free_given (container_of c p past) past (holder p past) k.1
   where
-    by : (q : ℕ) (b : Bool) → holds a (place_view c past q) ≡ b → holds a (place_view c past q) ≡ false
-    by q true t = let no : None ≡ Some q = sym at ∙ held_stands g c past a q m t in cc
-    by q false t = t
+    below : (i n : ℕ) → nat_lt i n ≡ true → i < n
+    below i n e = grind (arith, nat_tests)
 
 standing_at : (g : Dag) (c : ConfValues) (past : Past) (a : AttemptId) → IsMade g c past → (s : Stage) → stage a past ≡ s → place_of (pool_view c past).places a ≡ standing s
 standing_at g c past a m Unknown e = nowhere g c past a m (ap place_in e)

@@ -20,7 +20,7 @@ ghost use Rattle.tez_history.specs.Steps.{enabled, is_running, some_place, some_
 ghost use Rattle.tez_history.specs.Rules.{is_at_start};
 ghost use Rattle.tez_history.specs.Follows.{IsMade};
 ghost use Rattle.tez_history.specs.Runs.{Run, Found, Happening, opened_by, stopped, run, not_begun};
-ghost use Rattle.tez_pool.specs.Table.{new_pool, who, is_free, place_of, held_on, after_place, after_sent, after_release, after_loss, after_clear};
+ghost use Rattle.tez_pool.specs.Table.{new_pool, who, is_free, place_held, place_of, container_given, held_on, after_place, after_sent, after_release, after_loss, after_clear};
 ghost use Rattle.tez_pool.specs.Victim.{AreIn, IsGreatest, candidates};
 ghost use Rattle.tez_pool_view.specs.Elsewhere.{IsElsewhere};
 ghost use Rattle.tez_pool_view.specs.View.{pool_view, place_for, standing, IsLeastQueued, IsWholeAtCommit};
@@ -30,9 +30,12 @@ pub fn pool_is_new()
     ensures { (c : ConfValues) → pool_view c [] ≡ new_pool c.nodes c.per_node c.reuse }
 {}
 
-/// A place that is given to a queued attempt is held by it, and its order did not go out.
+/// A place that is given to a queued attempt, which holds none, is held by it, and its order did not
+/// go out. The container that the pool answers is that of the entry.
 pub fn place_is_given()
-    ensures { (g : Dag) (c : ConfValues) (past : Past) (a : AttemptId) (p : ℕ) → IsMade g c past → enabled g c past (CoreEvent.Place a p) ≡ true → after_place (pool_view c past) a p ≡ pool_view c (extend past (entries_of g c past (CoreEvent.Place a p))) }
+    ensures before { (g : Dag) (c : ConfValues) (past : Past) (a : AttemptId) (p : ℕ) → IsMade g c past → enabled g c past (CoreEvent.Place a p) ≡ true → place_held (pool_view c past).places a ≡ None }
+    ensures container { (g : Dag) (c : ConfValues) (past : Past) (a : AttemptId) (p : ℕ) → enabled g c past (CoreEvent.Place a p) ≡ true → container_given (pool_view c past).places p ≡ Some (record { 0 = container_of c p past }) }
+    ensures after { (g : Dag) (c : ConfValues) (past : Past) (a : AttemptId) (p : ℕ) → IsMade g c past → enabled g c past (CoreEvent.Place a p) ≡ true → after_place (pool_view c past) a p ≡ pool_view c (extend past (entries_of g c past (CoreEvent.Place a p))) }
 {}
 
 /// The order of a waiting attempt goes out, and it stays at its place.
@@ -84,7 +87,7 @@ pub fn readings_agree()
     ensures free { (c : ConfValues) (past : Past) → position is_free (pool_view c past).places ≡ find (is_free_after past) (numbers_below (places c)) }
     ensures some_free { (c : ConfValues) (past : Past) → any_free c past ≡ is_some (position is_free (pool_view c past).places) }
     ensures place { (g : Dag) (c : ConfValues) (past : Past) (a : AttemptId) → IsMade g c past → place_of (pool_view c past).places a ≡ standing (stage a past) }
-    ensures container { (c : ConfValues) (past : Past) (p : ℕ) → p < places c → option_map (λ x. x.container.0) (slice_get (pool_view c past).places p) ≡ Some (container_of c p past) }
+    ensures container { (c : ConfValues) (past : Past) (p : ℕ) → p < places c → option_map (λ x. x.container) (slice_get (pool_view c past).places p) ≡ Some (record { 0 = container_of c p past }) }
     ensures holder { (c : ConfValues) (past : Past) (p : ℕ) → p < places c → option_map who (slice_get (pool_view c past).places p) ≡ Some (holder p past) }
     ensures life { (c : ConfValues) (past : Past) (slot : ℕ) → slot < c.nodes → slice_get (pool_view c past).lives slot ≡ Some (life slot past) }
     ensures node { (c : ConfValues) (past : Past) (slot : ℕ) → slot < c.nodes → held_on (pool_view c past) slot ≡ filter_map (λ p. holder p past) (places_on c slot) }
