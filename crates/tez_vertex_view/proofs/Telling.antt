@@ -1,9 +1,8 @@
 -- What the machines tell of attempts, and the attempts in order of tasks.
-use Rattle.std.specs.Prelude.{◌≡◌, ℕ, zero, suc, ◌<◌, Bool, true, false, if◌then◌else◌, List, [], ◌∷◌, ◌++◌, map, length, Option, Some, None, is_some, unwrap_or, refl}
+use Rattle.std.specs.Prelude.{◌≡◌, ℕ, zero, suc, Bool, true, false, if◌then◌else◌, List, [], ◌∷◌, ◌++◌, map, length, Option, Some, None, is_some, unwrap_or, refl}
 use Rattle.std.specs.List.{filter_map, flat_map, cons_option}
 use Rattle.std.specs.Option.{option_map}
 use Rattle.std.proofs.Common.{ap, sym, ◌∙◌, subst}
-use Rattle.std.proofs.lemmas.Option.{same_Some}
 use Rattle.tez_ids.specs.declared.TaskId.{TaskId}
 use Rattle.tez_ids.specs.declared.AttemptId.{AttemptId}
 use Rattle.tez_ids.specs.Same.{task, same_attempt}
@@ -13,10 +12,8 @@ use Rattle.tez_conf.specs.declared.values.ConfValues.{ConfValues}
 use Rattle.tez_vman.specs.declared.seen.Config.{Config}
 use Rattle.tez_vman.specs.Rules.{config as shape}
 use Rattle.tez_attempt.specs.declared.AttemptState.{AttemptState}
-use Rattle.tez_task.specs.declared.Live.{Live}
 use Rattle.tez_task.specs.TaskState.{TaskState}
 use Rattle.tez_task.specs.Table.{live_of, state_of}
-use Rattle.tez_vertex.specs.Vertex.{Vertex}
 use Rattle.tez_history.specs.Shape.{numbers_below, vertices}
 use Rattle.tez_history.specs.History.{Past, Stage, InQueue, Waits, Runs, Ended, Unknown, stage, live, winner, config}
 use Rattle.tez_history.specs.Derived.{is_configured, task_count, tasks, tasks_if, live_attempts}

@@ -6,6 +6,7 @@
 --     live_in vs, winners_in vs  the live attempts and the winners in order of tasks
 --     change vs v f             the vertices once v changed by f
 --     take_in vs t e            the vertices once task t took an event
+--     AreRestorable c vs        no task had an attempt, and each may fail more often
 --     FailedAreTasks g past     while the master is up, only tasks of configured vertices have failed
 use Rattle.std.specs.Prelude.{◌≡◌, ⊤, ℕ, Bool, true, false, nat_lt, nat_le, List, map, slice_get, slice_set, Option, Some, None}
 use Rattle.std.specs.List.{list_any, fold, filter, filter_map, flat_map}
@@ -25,7 +26,7 @@ use Rattle.tez_task.specs.declared.TaskEvent.TheVariants.{Kill, Lose}
 use Rattle.tez_task.specs.TaskState.{TaskState}
 use Rattle.tez_task.specs.Table.{live_of}
 use Rattle.tez_vertex.specs.Vertex.{Vertex}
-use Rattle.tez_vertex.specs.Table.{new_vertex, task_of, after_configure, after_take, after_restore}
+use Rattle.tez_vertex.specs.Table.{new_vertex, task_of, after_configure, after_take, after_restore, IsFresh}
 use Rattle.tez_history.specs.Shape.{numbers_below, vertices}
 use Rattle.tez_history.specs.History.{Past, Stage, Unknown, InQueue, Waits, Runs, Ended, stage, live, winner, attempts, failures, epoch, config, holder, is_up, extend}
 use Rattle.tez_history.specs.Derived.{is_configured, is_task, tasks, places_on, is_on_node}
@@ -146,6 +147,14 @@ keep_one vs a = change vs a.task.vertex.0 (λ s. after_restore s a.task.index (f
 
 abbrev pub restored_vertices : Dag → ConfValues → ℕ → Standing → List Vertex
 restored_vertices g c epoch s = fold keep_one (fold carry_one (fold configure_one (new_vertices g c epoch) s.configured) s.failed) s.kept
+
+-- a task may be restored as long as it had no attempt and may fail more often
+pub record IsRestorable (c : ConfValues) (s : Vertex) : Type 0 where
+  pub limit : s.max_failed ≡ c.max_failed
+  pub tasks : (i : ℕ) (t : TaskState) → task_of s i ≡ Some t → (t.max_failed ≡ c.max_failed) × IsFresh t.failures t
+
+abbrev pub AreRestorable : ConfValues → List Vertex → Type 0
+AreRestorable c vs = (v : ℕ) (s : Vertex) → slice_get vs v ≡ Some s → IsRestorable c s
 
 -- ---- failures
 

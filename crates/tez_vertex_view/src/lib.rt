@@ -13,7 +13,7 @@ ghost use Rattle.tez_ids.specs.declared.VertexId.{VertexId};
 ghost use Rattle.tez_plan.specs.Dag.{Dag};
 ghost use Rattle.tez_conf.specs.declared.values.ConfValues.{ConfValues};
 ghost use Rattle.tez_vman.specs.declared.seen.Config.{Config};
-ghost use Rattle.tez_vertex.specs.Vertex.{has_winner};
+ghost use Rattle.tez_vertex.specs.Vertex.{Vertex, has_winner};
 ghost use Rattle.tez_vertex.specs.Table.{task_of, has_failed, after_configure};
 ghost use Rattle.tez_events.specs.declared.StopCause.{StopCause};
 ghost use Rattle.tez_events.specs.declared.CoreEvent.{CoreEvent};
@@ -27,7 +27,7 @@ ghost use Rattle.tez_history.specs.Derived.{tasks, live_attempts, is_processing,
 ghost use Rattle.tez_history.specs.Steps.{enabled, entries_of, done_entries, winner_behind};
 ghost use Rattle.tez_history.specs.Follows.{IsMade, IsPlaced};
 ghost use Rattle.tez_laws.specs.Laws.{FewFailures};
-ghost use Rattle.tez_vertex_view.specs.View.{task_view, vertex_view, vertices_view, new_vertices, restored_vertices, idle, change, FailedAreTasks, FailedStand, take_in, kill_all, lose_all, held_there, lost_there, come, live_in, winners_in};
+ghost use Rattle.tez_vertex_view.specs.View.{task_view, vertex_view, vertices_view, new_vertices, restored_vertices, idle, change, FailedAreTasks, FailedStand, take_in, kill_all, lose_all, held_there, lost_there, come, live_in, winners_in, AreRestorable, configure_one, carry_one, keep_one};
 ghost use Rattle.tez_vertex_view.specs.Elsewhere.{IsElsewhere};
 
 /// A task gets its first attempt.
@@ -95,6 +95,15 @@ pub fn masters_change()
     ensures stop { (g : Dag) (c : ConfValues) (r : Run) (cause : StopCause) → vertices_view g c (stopped c r cause).past ≡ map idle (vertices_view g c r.past) }
     ensures over { (g : Dag) (c : ConfValues) (r : Run) → vertices_view g c (opened_by g c r Found.AllDone).past ≡ new_vertices g c (suc (epoch r.past)) }
     ensures start { (g : Dag) (c : ConfValues) (r : Run) (s : Standing) → 0 < c.max_failed → spent_in c s ≡ None → vertices_view g c (opened_by g c r (Found.Unfinished s)).past ≡ restored_vertices g c (suc (max s.epoch (epoch r.past))) s }
+{}
+
+/// Each task may be restored when a new master comes to it: none had an attempt yet, and each may
+/// fail more often.
+pub fn tasks_may_be_restored()
+    ensures new { (g : Dag) (c : ConfValues) (epoch : ℕ) → AreRestorable c (new_vertices g c epoch) }
+    ensures configured { (c : ConfValues) (vs : List Vertex) (x : ℕ × Config) → 0 < c.max_failed → AreRestorable c vs → AreRestorable c (configure_one vs x) }
+    ensures carried { (c : ConfValues) (vs : List Vertex) (x : TaskId × ℕ) → x.1 < c.max_failed → AreRestorable c vs → AreRestorable c (carry_one vs x) }
+    ensures kept { (c : ConfValues) (vs : List Vertex) (a : AttemptId) → AreRestorable c vs → AreRestorable c (keep_one vs a) }
 {}
 
 /// What a task answers is what the entries say: an attempt goes on, the next attempt that is queued
