@@ -5,5 +5,6 @@ pub mod Leaving
 pub mod Losing
 pub mod Pairs
 pub mod Reading
+pub mod Rows
 pub mod Sinks
 pub mod Stepping

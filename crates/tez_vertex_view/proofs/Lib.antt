@@ -5,6 +5,7 @@ pub mod Losing
 pub mod Moving
 pub mod Opening
 pub mod Pairs
+pub mod Rows
 pub mod Stepping
 pub mod Taking
 pub mod Telling
