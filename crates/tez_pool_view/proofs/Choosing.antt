@@ -13,13 +13,13 @@ use Rattle.std.proofs.lemmas.Map.Lookups.{exact_bytes}
 use Rattle.std.proofs.lemmas.Option.{same_Some}
 use Rattle.tez_ids.specs.declared.TaskId.{TaskId}
 use Rattle.tez_ids.specs.declared.AttemptId.{AttemptId}
-use Rattle.tez_ids.specs.Same.{task}
+use Rattle.tez_ids.specs.Same.{task, attempt}
 use Rattle.tez_lists.specs.Numbers.{In}
 use Rattle.tez_lists.proofs.Cases.{both as not_both_ways}
 use Rattle.tez_lists.proofs.Flat.{in-filter-out}
 use Rattle.tez_lists.proofs.Members.{in_filter, in_map, in_flat_map}
 use Rattle.tez_plan.specs.declared.parts.EdgeSpec.{EdgeSpec}
-use Rattle.tez_plan.specs.Dag.{Dag, from, to}
+use Rattle.tez_plan.specs.Dag.{Dag, from, to, tasks_of as planned}
 use Rattle.tez_plan.specs.Order.{depth, EndsPath}
 use Rattle.tez_plan.specs.Faults.{IsValid}
 use Rattle.tez_plan.proofs.RankLemmas.{ranked}
@@ -116,7 +116,7 @@ same_rank g a b e =
     let number_same : a.number ≡ b.number = ap (λ l. get_or l 4 0) e in
     rebuilt a.epoch.0 b.epoch.0 a.task.vertex.0 b.task.vertex.0 a.task.index b.task.index a.number b.number epoch_same vertex_same index_same number_same
   where
-    rebuilt : (e f v w i j n m : ℕ) → e ≡ f → v ≡ w → i ≡ j → n ≡ m → Rattle.tez_ids.specs.Same.attempt e (task v i) n ≡ Rattle.tez_ids.specs.Same.attempt f (task w j) m
+    rebuilt : (e f v w i j n m : ℕ) → e ≡ f → v ≡ w → i ≡ j → n ≡ m → attempt e (task v i) n ≡ attempt f (task w j) m
     rebuilt e f v w i j n m p q r s = cc
 
 only_greatest : (g : Dag) (a b : AttemptId) → IsUpTo g a b → IsUpTo g b a → a ≡ b
@@ -140,7 +140,7 @@ in_waiting g c past a m inside w =
     let there = scheduled_is_task g c past m a.task (live_scheduled g c past m a.task a lives) in
     let listed : In a.task (tasks g past) =
     in_flat_map (λ v. tasks_if (config v past) v) a.task.vertex.0 a.task (vertices g) (in_numbers 0 (length g.vertices) a.task.vertex.0 (omega arith) (omega (arith, inside)))
-    (task_in g past a.task (config a.task.vertex.0 past) (shape (Rattle.tez_plan.specs.Dag.tasks_of g a.task.vertex.0) 1) refl there) in
+    (task_in g past a.task (config a.task.vertex.0 past) (shape (planned g a.task.vertex.0) 1) refl there) in
     in_filter (λ b. is_waiting (stage b past)) a (live_attempts g past) (in_filter_map (λ t. live t past) a.task a (tasks g past) listed lives) w
 
 tasks_before : (g : Dag) (past : Past) → Pairwise IsBefore (tasks g past)

@@ -16,7 +16,7 @@ use Rattle.tez_conf.specs.declared.values.ConfValues.{ConfValues}
 use Rattle.tez_vman.specs.declared.seen.Config.{Config}
 use Rattle.tez_events.specs.declared.StopCause.{StopCause}
 use Rattle.tez_events.specs.declared.Entry.{Entry}
-use Rattle.tez_events.specs.declared.Entry.TheVariants.{Opened, Over, Stands, Carried, Kept, Configured, Queued, Fetched, ReadError, InputFailed, Succeeded, Made, Failed, Killed, NodeLost, Rerun, Stopped, Ready as Readied, CommitStarted, Finished, Purged}
+use Rattle.tez_events.specs.declared.Entry.TheVariants.{Opened, Over, Stands, Carried, Kept, Configured, Queued, Fetched, ReadError, InputFailed, Succeeded, Made, Failed, Killed, NodeLost, Rerun, Stopped, Ready as Readied, CommitStarted, Finished, Purged, OutputLost}
 use Rattle.tez_events.specs.declared.CoreEvent.{CoreEvent}
 use Rattle.tez_events.specs.declared.CoreEvent.TheVariants.{Open, Configure, Queue, Place, Fetch, Send, Preempt, Fail, LoseNode, LoseOutput, Restart, Ready, CommitStart, Publish, Finish, Purge}
 use Rattle.tez_history.specs.Shape.{numbers_below, sinks, is_vertex}
@@ -35,6 +35,7 @@ use Rattle.tez_laws.proofs.Going.{extend-append}
 use Rattle.tez_laws.proofs.RunLaw.{run_sound}
 use Rattle.tez_pool_view.specs.View.{IsWholeAtCommit}
 use Rattle.tez_pool_view.proofs.Sinks.{some_or_none}
+use Rattle.tez_events.specs.declared.StopCause.TheVariants.{Script}
 
 -- ---- where every task has a winner, none has a live attempt
 
@@ -247,7 +248,7 @@ whole_fetch g c past a e i (Some x) w cannot = by (is_on_shelf g c past x) where
 
 whole_output : (g : Dag) (past : Past) (o : Option AttemptId) → IsWholeAtCommit g past → IsWholeAtCommit g (extend past (output_lost_entries o))
 whole_output g past None w = w
-whole_output g past (Some x) w = keep_one g past (Rattle.tez_events.specs.declared.Entry.TheVariants.OutputLost x) tt w
+whole_output g past (Some x) w = keep_one g past (OutputLost x) tt w
 
 whole_fail : (g : Dag) (past : Past) (a : AttemptId) (b : Bool) → IsWholeAtCommit g past → IsWholeAtCommit g (extend past (Failed a ∷ (if b then [] else requeue past a.task)))
 whole_fail g past a true w = keep_one g past (Failed a) tt w
@@ -382,7 +383,7 @@ whole_start g c r (Unfinished s) at w = by (spent_in c s) where
 -- ---- runs
 
 whole_took : (g : Dag) (c : ConfValues) (r : Run) (e : CoreEvent) → IsValid g → IsMade g c r.past → IsWholeAtCommit g r.past → enabled g c r.past e ≡ true → IsWholeAtCommit g (took g c r e).past
-whole_took g c r Restart valid m w h = whole_stop g c r Rattle.tez_events.specs.declared.StopCause.TheVariants.Script
+whole_took g c r Restart valid m w h = whole_stop g c r Script
 whole_took g c r Open valid m w h = w
 whole_took g c r e valid m w h = whole_event g c r.past e valid m w h
 

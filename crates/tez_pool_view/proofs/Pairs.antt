@@ -7,6 +7,7 @@ use Rattle.std.proofs.lemmas.List.{reverse-append}
 use Rattle.std.proofs.lemmas.Option.{same_Some}
 use Rattle.tez_lists.specs.Numbers.{numbers_from, In}
 use Rattle.tez_lists.proofs.Flat.{in-filter-out}
+use Rattle.std.proofs.lemmas.Bool.{cases_lt}
 
 -- ---- members
 
@@ -57,7 +58,7 @@ in_filter_map h x y (z ∷ zs) (inr k) e = in-cons_option y (h z) (filter_map h 
 
 pub in_numbers : (a n i : ℕ) → a ≤ i → i < a + n → In i (numbers_from a n)
 in_numbers a zero i l b = absurd (omega arith)
-in_numbers a (suc n) i l b = by (λ u w. in_numbers (suc a) n i u w) (Rattle.std.proofs.lemmas.Bool.cases_lt a i) where
+in_numbers a (suc n) i l b = by (λ u w. in_numbers (suc a) n i u w) (cases_lt a i) where
   by : (suc a ≤ i → i < suc a + n → In i (numbers_from (suc a) n)) → (a < i) ⊎ (i ≤ a) → In i (a ∷ numbers_from (suc a) n)
   by rest (inl k) = inr (rest (omega arith) (omega arith))
   by rest (inr k) = let e : i ≡ a = omega arith in inl e

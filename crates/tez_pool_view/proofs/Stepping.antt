@@ -13,7 +13,7 @@ use Rattle.tez_events.specs.declared.Entry.TheVariants.{Stands, Carried, Kept, S
 use Rattle.tez_events.specs.declared.CoreEvent.{CoreEvent}
 use Rattle.tez_events.specs.declared.CoreEvent.TheVariants.{Open, Configure, Queue, Place, Fetch, Send, Preempt, Fail, LoseNode, LoseOutput, Restart, Ready, CommitStart, Publish, Finish, Purge}
 use Rattle.tez_history.specs.Shape.{is_vertex}
-use Rattle.tez_history.specs.History.{Past, epoch, extend, stage, holder, container_of, winner, failures, config, is_committing, life, live}
+use Rattle.tez_history.specs.History.{Past, epoch, extend, stage, holder, container_of, winner, failures, config, is_committing, life, live, Stage, Unknown, InQueue, Waits, Runs, Ended}
 use Rattle.tez_history.specs.Derived.{is_processing, is_task}
 use Rattle.tez_history.specs.Steps.{enabled, entries_of, requeue, each_after, node_kills, node_withdrawals, node_loss_entries, winner_behind, done_entries}
 use Rattle.tez_history.specs.Rules.{is_at_start}
@@ -33,12 +33,12 @@ use Rattle.tez_pool_view.proofs.Leaving.{AllLeave, leave_all, leave_opened, leav
 lt-from-ltb : (a b : ℕ) → nat_lt a b ≡ true → a < b
 lt-from-ltb a b h = grind (arith, nat_tests)
 
-pub runs_placed : (s : _) → is_processing s ≡ true → IsPlaced s
-runs_placed (Rattle.tez_history.specs.History.Runs p) h = tt
-runs_placed Rattle.tez_history.specs.History.InQueue h = cc
-runs_placed (Rattle.tez_history.specs.History.Waits p) h = cc
-runs_placed Rattle.tez_history.specs.History.Unknown h = cc
-runs_placed Rattle.tez_history.specs.History.Ended h = cc
+pub runs_placed : (s : Stage) → is_processing s ≡ true → IsPlaced s
+runs_placed (Runs p) h = tt
+runs_placed InQueue h = cc
+runs_placed (Waits p) h = cc
+runs_placed Unknown h = cc
+runs_placed Ended h = cc
 
 pub placed_step : (g : Dag) (c : ConfValues) (past : Past) (a : AttemptId) (p : ℕ) → IsMade g c past → enabled g c past (Place a p) ≡ true
     → after_place (pool_view c past) a p ≡ pool_view c (extend past (entries_of g c past (Place a p)))

@@ -1,5 +1,5 @@
 -- What the tasks answer, and what the vertices tell.
-use Rattle.std.specs.Prelude.{◌≡◌, ◌⊎◌, ℕ, zero, suc, ◌+◌, ◌<◌, ◌≤◌, ◌&&◌, ◌||◌, ◌==◌, nat_le, Bool, true, false, IsTrue, if◌then◌else◌, List, [], ◌∷◌, map, length, slice_get, Option, Some, None, is_some, refl}
+use Rattle.std.specs.Prelude.{◌≡◌, ◌⊎◌, ℕ, zero, suc, ◌+◌, ◌<◌, ◌≤◌, ◌&&◌, ◌||◌, ◌==◌, nat_le, Bool, true, false, IsTrue, if◌then◌else◌, List, [], ◌∷◌, map, length, slice_get, Option, Some, None, is_some, refl, unwrap_or}
 use Rattle.std.specs.List.{list_all, list_any, filter_map, cons_option}
 use Rattle.std.specs.Option.{option_map}
 use Rattle.std.proofs.Common.{ap, sym, ◌∙◌, subst, arith}
@@ -33,6 +33,7 @@ use Rattle.tez_vertex_view.specs.View.{machine_at, live_view, task_view, tasks_i
 use Rattle.tez_vertex_view.proofs.Taking.{get_below}
 use Rattle.tez_vertex_view.proofs.Moving.{state, same_state, none_fact, none_by_winner, alive_view, first_view, lives, unspent, placed_took, sent_took, done_took, killed_took, failed_took_last, failed_took_again, lost_took}
 use Rattle.tez_vertex_view.proofs.Stepping.{waits_at, runs_at}
+use Rattle.tez_attempt.specs.declared.AttemptState.TheVariants.{Processing}
 
 -- ---- answers
 
@@ -52,7 +53,7 @@ send_answer g c past a m few h =
     ∙ sent_took a.task (epoch past) c.max_failed (winner a.task past) (attempts a.task past) (failures a.task past) a
 
 processing_view : (g : Dag) (c : ConfValues) (past : Past) (a : AttemptId) → IsMade g c past → FewFailures c past → IsTrue (is_processing (stage a past))
-    → task_view c a.task past ≡ state a.task (epoch past) c.max_failed (Some (record { attempt = a; machine = Rattle.tez_attempt.specs.declared.AttemptState.TheVariants.Processing })) (winner a.task past) (attempts a.task past) (failures a.task past) false
+    → task_view c a.task past ≡ state a.task (epoch past) c.max_failed (Some (record { attempt = a; machine = Processing })) (winner a.task past) (attempts a.task past) (failures a.task past) false
 processing_view g c past a m few h =
     let at = runs_at (stage a past) h in alive_view c past a (Runs at.0) few (lives g c past a m (subst IsAlive (sym at.1) tt)) at.1
 
@@ -92,7 +93,7 @@ lose_answer g c past w m few won =
 pub read_vertex : (g : Dag) (c : ConfValues) (past : Past) (v : ℕ) → v < length g.vertices → slice_get (vertices_view g c past) v ≡ Some (vertex_view c v past)
 read_vertex g c past v l = get_below (λ w. vertex_view c w past) (length g.vertices) v l
 
-counted : (g : Dag) (v : ℕ) (o : Option Config) (plan : Config) → is_some o ≡ true → (Rattle.std.specs.Prelude.unwrap_or o plan).tasks ≡ tasks_in o
+counted : (g : Dag) (v : ℕ) (o : Option Config) (plan : Config) → is_some o ≡ true → (unwrap_or o plan).tasks ≡ tasks_in o
 counted g v (Some s) plan h = refl
 counted g v None plan h = cc
 
@@ -137,7 +138,7 @@ whole_by f h a (suc n) e = by (whole_by f h (suc a) n e) (short f (suc a) n) (f 
 pub read_done : (g : Dag) (c : ConfValues) (past : Past) (v : ℕ) → is_vertex_done g v past ≡ ((vertex_view c v past).configured && list_all has_winner (vertex_view c v past).tasks)
 read_done g c past v = by (config v past) where
   by : (o : Option Config)
-      → (is_some o && (length (winners_of v (Rattle.std.specs.Prelude.unwrap_or o (shape (planned g v) 1)).tasks past) == (Rattle.std.specs.Prelude.unwrap_or o (shape (planned g v) 1)).tasks))
+      → (is_some o && (length (winners_of v (unwrap_or o (shape (planned g v) 1)).tasks past) == (unwrap_or o (shape (planned g v) 1)).tasks))
       ≡ (is_some o && list_all has_winner (map (λ i. task_view c (task v i) past) (numbers_below (tasks_in o))))
   by None = refl
   by (Some s) = whole_by (λ i. winner (task v i) past) (λ i. task_view c (task v i) past) 0 s.tasks (λ i. refl)

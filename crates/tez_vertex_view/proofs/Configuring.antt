@@ -1,5 +1,5 @@
 -- What a configuration makes of the vertices, and that only tasks of configured vertices have failed.
-use Rattle.std.specs.Prelude.{◌≡◌, ℕ, zero, suc, ◌+◌, ◌<◌, ◌≤◌, ◌&&◌, ◌==◌, nat_lt, nat_le, ⊤, Bool, true, false, IsTrue, not, if◌then◌else◌, List, [], ◌∷◌, ◌++◌, map, Option, Some, None, is_some, is_none, unwrap_or, refl}
+use Rattle.std.specs.Prelude.{◌≡◌, ℕ, zero, suc, ◌+◌, ◌<◌, ◌≤◌, ◌&&◌, ◌==◌, nat_lt, nat_le, ⊤, Bool, true, false, IsTrue, not, if◌then◌else◌, List, [], ◌∷◌, ◌++◌, map, Option, Some, None, is_some, is_none, unwrap_or, refl, ◌||◌}
 use Rattle.std.specs.List.{list_any}
 use Rattle.std.proofs.Common.{ap, sym, ◌∙◌, subst, arith, eq-eqb}
 use Rattle.std.proofs.lemmas.Bool.{eqb-true}
@@ -30,7 +30,7 @@ use Rattle.tez_laws.proofs.Tasks.{unscheduled}
 use Rattle.tez_laws.proofs.Ranges.{live_scheduled, scheduled_is_task}
 use Rattle.tez_laws.proofs.Same.{same_task-true}
 use Rattle.tez_laws.proofs.StepLaw.{both, event_may, done_may, AllNotices, notices_are}
-use Rattle.tez_vertex_view.specs.View.{task_view, tasks_in, has_moved, vertex_view, vertices_view, change, FailedAreTasks}
+use Rattle.tez_vertex_view.specs.View.{task_view, tasks_in, has_moved, vertex_view, vertices_view, change, FailedAreTasks, live_view}
 use Rattle.tez_vertex_view.proofs.Taking.{change_view, same_vertex, stay_vertex}
 use Rattle.tez_vertex_view.proofs.Moving.{same_state, none_fact}
 
@@ -38,7 +38,7 @@ use Rattle.tez_vertex_view.proofs.Moving.{same_state, none_fact}
 
 none_any : (t : ℕ → Bool) (a n : ℕ) → ((i : ℕ) → t i ≡ false) → list_any t (numbers_from a n) ≡ false
 none_any t a zero h = refl
-none_any t a (suc n) h = ap (λ b. Rattle.std.specs.Prelude.◌||◌ b (list_any t (numbers_from (suc a) n))) (h a) ∙ none_any t (suc a) n h
+none_any t a (suc n) h = ap (λ b. b || list_any t (numbers_from (suc a) n)) (h a) ∙ none_any t (suc a) n h
 
 pub configured_by : (g : Dag) (c : ConfValues) (past later : Past) (v : ℕ) (s : Config) → config v past ≡ None → config v later ≡ Some s → ((w : ℕ) → (v == w) ≡ false → config w later ≡ config w past)
     → epoch later ≡ epoch past → ((u : TaskId) → task_view c u later ≡ task_view c u past) → ((i : ℕ) → task_view c (task v i) past ≡ new_task (task v i) (epoch past) c.max_failed)
@@ -59,7 +59,7 @@ configured_by g c past later v s none some others ep same new =
 
 pub new_view : (c : ConfValues) (past : Past) (t : TaskId) → 0 < c.max_failed → live t past ≡ None → winner t past ≡ None → attempts t past ≡ 0 → failures t past ≡ 0 → task_view c t past ≡ new_task t (epoch past) c.max_failed
 new_view c past t some l w q f =
-    same_state t (epoch past) (epoch past) c.max_failed (Rattle.tez_vertex_view.specs.View.live_view t past) None (winner t past) None (attempts t past) 0 (failures t past) 0 (nat_le c.max_failed (failures t past)) false
+    same_state t (epoch past) (epoch past) c.max_failed (live_view t past) None (winner t past) None (attempts t past) 0 (failures t past) 0 (nat_le c.max_failed (failures t past)) false
     refl (none_fact past t l) w q f (ap (nat_le c.max_failed) f ∙ more c.max_failed some)
   where
     more : (n : ℕ) → 0 < n → nat_le n 0 ≡ false

@@ -1,5 +1,5 @@
 -- What losses make of the vertices: winners are withdrawn, and who held a place of a lost node is killed.
-use Rattle.std.specs.Prelude.{◌≡◌, ◌⊎◌, ◌≢◌, ℕ, zero, suc, ◌+◌, ◌*◌, ◌<◌, ◌≤◌, ◌&&◌, ◌==◌, Bool, true, false, if◌then◌else◌, List, [], ◌∷◌, ◌++◌, map, Option, Some, None, refl}
+use Rattle.std.specs.Prelude.{◌≡◌, ◌⊎◌, ◌≢◌, ℕ, zero, suc, ◌+◌, ◌*◌, ◌<◌, ◌≤◌, ◌&&◌, ◌==◌, Bool, true, false, if◌then◌else◌, List, [], ◌∷◌, ◌++◌, map, Option, Some, None, refl, length, nat_lt}
 use Rattle.std.specs.List.{filter, filter_map, cons_option, fold}
 use Rattle.std.proofs.Common.{ap, sym, ◌∙◌, subst, arith}
 use Rattle.std.proofs.lemmas.Bool.Decides.{nat_tests}
@@ -154,7 +154,7 @@ losses_step g c slot before (t ∷ ts) past p m few =
     losses_by g c slot before past t ts (winner t past) (λ q made f. losses_step g c slot before ts q p.1 made f) p.0 refl m few
 
 tasks_apart : (g : Dag) (past : Past) → Pairwise Apart (tasks g past)
-tasks_apart g past = pairwise-flat Apart (λ v. tasks_if (config v past) v) (λ v. each v (config v past)) (λ u v s t l m k. cross u v s t l (config u past) (config v past) m k) 0 (Rattle.std.specs.Prelude.length g.vertices) where
+tasks_apart g past = pairwise-flat Apart (λ v. tasks_if (config v past) v) (λ v. each v (config v past)) (λ u v s t l m k. cross u v s t l (config u past) (config v past) m k) 0 (length g.vertices) where
   apart_index : (v i j : ℕ) → i < j → same_task (task v i) (task v j) ≡ false
   apart_index v i j l = grind (arith, nat_tests)
 
@@ -215,7 +215,7 @@ loss_step g c past slot m few there o =
     ∙ ap (λ vs. lose_all vs (on_node g c slot past (filter_map (λ t. winner t mid) (tasks g past)))) (kills_step g c (slot * c.per_node) c.per_node lost made few)
     ∙ ap (λ ws. lose_all (kill_all (vertices_view g c past) (held_there c past slot)) (on_node g c slot past ws)) (filter_map-same (λ t. winner t mid) (λ t. winner t past) (tasks g past) (λ t _. kills_winner lost t (places_on c slot)))
 
-below : (a b : ℕ) → Rattle.std.specs.Prelude.nat_lt a b ≡ true → a < b
+below : (a b : ℕ) → nat_lt a b ≡ true → a < b
 below a b h = grind (arith, nat_tests)
 
 pub lost_step : (g : Dag) (c : ConfValues) (past : Past) (slot : ℕ) → IsMade g c past → FewFailures c past → enabled g c past (LoseNode slot) ≡ true → is_committing past ≡ false

@@ -21,7 +21,7 @@ use Rattle.tez_task.specs.declared.TaskTook.TheVariants.{Moved, Again, Spent}
 use Rattle.tez_task.specs.TaskState.{TaskState}
 use Rattle.tez_task.specs.Table.{task_after, task_took}
 use Rattle.tez_vertex.specs.Table.{is_ignored}
-use Rattle.tez_history.specs.History.{Past, Stage, InQueue, Waits, Runs, Ended, stage, sent, live, winner, freed, attempts, failures, epoch, config, extend}
+use Rattle.tez_history.specs.History.{Past, Stage, InQueue, Waits, Runs, Ended, stage, sent, live, winner, freed, attempts, failures, epoch, config, extend, Unknown}
 use Rattle.tez_history.specs.Derived.{next_attempt, notices}
 use Rattle.tez_history.specs.Steps.{requeue}
 use Rattle.tez_history.specs.Follows.{IsMade, IsPlaced, IsAlive}
@@ -116,7 +116,7 @@ pub killed_after : (t : TaskId) (ep max : ℕ) (w : Option AttemptId) (q f : ℕ
 killed_after t ep max w q f a (Waits p) h = rw (same_attempt-refl a) refl
 killed_after t ep max w q f a (Runs p) h = rw (same_attempt-refl a) refl
 killed_after t ep max w q f a InQueue h = absurd h
-killed_after t ep max w q f a Rattle.tez_history.specs.History.Unknown h = absurd h
+killed_after t ep max w q f a Unknown h = absurd h
 killed_after t ep max w q f a Ended h = absurd h
 
 pub killed_took : (t : TaskId) (ep max : ℕ) (w : Option AttemptId) (q f : ℕ) (a : AttemptId) (s : Stage) → IsPlaced s
@@ -124,7 +124,7 @@ pub killed_took : (t : TaskId) (ep max : ℕ) (w : Option AttemptId) (q f : ℕ)
 killed_took t ep max w q f a (Waits p) h = rw (same_attempt-refl a) refl
 killed_took t ep max w q f a (Runs p) h = rw (same_attempt-refl a) refl
 killed_took t ep max w q f a InQueue h = absurd h
-killed_took t ep max w q f a Rattle.tez_history.specs.History.Unknown h = absurd h
+killed_took t ep max w q f a Unknown h = absurd h
 killed_took t ep max w q f a Ended h = absurd h
 
 failed_last : (t : TaskId) (ep max : ℕ) (w : Option AttemptId) (q f : ℕ) (a : AttemptId) → nat_le max (f + 1) ≡ true
