@@ -16,7 +16,7 @@ use Rattle.tez_conf.specs.declared.values.ConfValues.{ConfValues}
 use Rattle.tez_vman.specs.declared.seen.Config.{Config}
 use Rattle.tez_events.specs.declared.StopCause.{StopCause}
 use Rattle.tez_events.specs.declared.Entry.{Entry}
-use Rattle.tez_events.specs.declared.Entry.TheVariants.{Opened, Over, Stands, Carried, Kept, Configured, Queued, Fetched, ReadError, InputFailed, Succeeded, Made, Failed, Killed, NodeLost, Rerun, Stopped, Ready as Readied, CommitStarted, Finished, Purged, OutputLost}
+use Rattle.tez_events.specs.declared.Entry.TheVariants.{Opened, Over, Stands, Carried, Kept, Configured, Fetched, ReadError, InputFailed, Succeeded, Made, Failed, NodeLost, Rerun, Stopped, Ready as Readied, CommitStarted, Finished, Purged, OutputLost}
 use Rattle.tez_events.specs.declared.CoreEvent.{CoreEvent}
 use Rattle.tez_events.specs.declared.CoreEvent.TheVariants.{Open, Configure, Queue, Place, Fetch, Send, Preempt, Fail, LoseNode, LoseOutput, Restart, Ready, CommitStart, Publish, Finish, Purge}
 use Rattle.tez_history.specs.Shape.{numbers_below, sinks, is_vertex}

@@ -1,6 +1,6 @@
 -- What losses make of the vertices: winners are withdrawn, and who held a place of a lost node is killed.
-use Rattle.std.specs.Prelude.{◌≡◌, ◌⊎◌, ◌≢◌, ℕ, zero, suc, ◌+◌, ◌*◌, ◌<◌, ◌≤◌, ◌&&◌, ◌==◌, Bool, true, false, if◌then◌else◌, List, [], ◌∷◌, ◌++◌, map, Option, Some, None, refl, length, nat_lt}
-use Rattle.std.specs.List.{filter, filter_map, cons_option, fold}
+use Rattle.std.specs.Prelude.{◌≡◌, ℕ, zero, suc, ◌*◌, ◌<◌, Bool, true, false, if◌then◌else◌, List, [], ◌∷◌, ◌++◌, Option, Some, None, refl, length, nat_lt}
+use Rattle.std.specs.List.{filter, filter_map, cons_option}
 use Rattle.std.proofs.Common.{ap, sym, ◌∙◌, subst, arith}
 use Rattle.std.proofs.lemmas.Bool.Decides.{nat_tests}
 use Rattle.tez_ids.specs.declared.TaskId.{TaskId}
