@@ -1,8 +1,9 @@
 -- What the machines tell of attempts, and the attempts in order of tasks.
-use Rattle.std.specs.Prelude.{◌≡◌, ℕ, zero, suc, Bool, true, false, if◌then◌else◌, List, [], ◌∷◌, ◌++◌, map, length, Option, Some, None, is_some, unwrap_or, refl}
+use Rattle.std.specs.Prelude.{◌≡◌, ◌<◌, nat_lt, ℕ, zero, suc, Bool, true, false, if◌then◌else◌, List, [], ◌∷◌, ◌++◌, map, length, Option, Some, None, is_some, unwrap_or, refl}
 use Rattle.std.specs.List.{filter_map, flat_map, cons_option}
 use Rattle.std.specs.Option.{option_map}
-use Rattle.std.proofs.Common.{ap, sym, ◌∙◌, subst}
+use Rattle.std.proofs.Common.{ap, sym, ◌∙◌, subst, arith}
+use Rattle.std.proofs.lemmas.Bool.Decides.{nat_tests}
 use Rattle.tez_ids.specs.declared.TaskId.{TaskId}
 use Rattle.tez_ids.specs.declared.AttemptId.{AttemptId}
 use Rattle.tez_ids.specs.Same.{task, same_attempt}
@@ -16,9 +17,11 @@ use Rattle.tez_task.specs.TaskState.{TaskState}
 use Rattle.tez_task.specs.Table.{live_of, state_of}
 use Rattle.tez_history.specs.Shape.{numbers_below, vertices}
 use Rattle.tez_history.specs.History.{Past, Stage, InQueue, Waits, Runs, Ended, Unknown, stage, live, winner, config}
-use Rattle.tez_history.specs.Derived.{is_configured, task_count, tasks, tasks_if, live_attempts}
+use Rattle.tez_history.specs.Derived.{is_configured, is_task, task_count, tasks, tasks_if, live_attempts}
 use Rattle.tez_history.specs.Follows.{IsMade, IsAlive}
 use Rattle.tez_laws.proofs.Same.{same_attempt-true, same_attempt-refl}
+use Rattle.tez_laws.proofs.Ranges.{live_scheduled, winner_scheduled, scheduled_is_task, configured_is_vertex}
+use Rattle.tez_laws.proofs.StepLaw.{both}
 use Rattle.tez_laws.proofs.Tasks.{live_alive}
 use Rattle.tez_vertex_view.specs.View.{machine_at, live_view, task_view, tasks_in, vertex_view, vertices_view, come, live_in, winners_in}
 use Rattle.tez_vertex_view.proofs.Moving.{living, live_fact, lives}
@@ -96,3 +99,21 @@ read_lives g c past = rows c past live_of (λ t. live t past) (λ t. live_same p
 
 pub read_winners : (g : Dag) (c : ConfValues) (past : Past) → winners_in (vertices_view g c past) ≡ filter_map (λ t. winner t past) (tasks g past)
 read_winners g c past = rows c past (λ s. s.winner) (λ t. winner t past) (λ t. refl) (vertices g)
+
+-- ---- tasks are there
+
+below : (a b : ℕ) → nat_lt a b ≡ true → a < b
+below a b h = grind (arith, nat_tests)
+
+pub read_there : (g : Dag) (c : ConfValues) (past : Past) (t : TaskId) → IsMade g c past → is_task g past t ≡ true → (t.vertex.0 < length g.vertices) × (t.index < length (vertex_view c t.vertex.0 past).tasks)
+read_there g c past t m is =
+    let k = both {x = is_configured t.vertex.0 past} is in (
+      below t.vertex.0 (length g.vertices) (configured_is_vertex g c past m t.vertex.0 k.0),
+      subst (λ n. t.index < n) (sym (read_count g c past t.vertex.0 k.0)) (below t.index (task_count g t.vertex.0 past) k.1),
+    )
+
+pub alive_there : (g : Dag) (c : ConfValues) (past : Past) (a : AttemptId) → IsMade g c past → IsAlive (stage a past) → is_task g past a.task ≡ true
+alive_there g c past a m alive = scheduled_is_task g c past m a.task (live_scheduled g c past m a.task a (lives g c past a m alive))
+
+pub winner_there : (g : Dag) (c : ConfValues) (past : Past) (t : TaskId) (w : AttemptId) → IsMade g c past → winner t past ≡ Some w → is_task g past t ≡ true
+winner_there g c past t w m won = scheduled_is_task g c past m t (winner_scheduled g c past m t w won)

@@ -23,9 +23,9 @@ ghost use Rattle.tez_task.specs.declared.TaskTook.{TaskTook};
 ghost use Rattle.tez_task.specs.Table.{task_took, live_of, next_of, state_of};
 ghost use Rattle.tez_history.specs.History.{Past, extend, stage, live, winner, failures, epoch, is_committing};
 ghost use Rattle.tez_history.specs.Runs.{Run, Found, Standing, opened_by, stopped, spent_in};
-ghost use Rattle.tez_history.specs.Derived.{tasks, live_attempts, is_processing, is_configured, is_vertex_done, task_count, next_attempt, is_on_shelf, configures};
+ghost use Rattle.tez_history.specs.Derived.{is_task, tasks, live_attempts, is_processing, is_configured, is_vertex_done, task_count, next_attempt, is_on_shelf, configures};
 ghost use Rattle.tez_history.specs.Steps.{enabled, entries_of, done_entries, winner_behind};
-ghost use Rattle.tez_history.specs.Follows.{IsMade, IsPlaced};
+ghost use Rattle.tez_history.specs.Follows.{IsMade, IsAlive, IsPlaced};
 ghost use Rattle.tez_laws.specs.Laws.{FewFailures};
 ghost use Rattle.tez_vertex_view.specs.View.{task_view, vertex_view, vertices_view, new_vertices, restored_vertices, idle, change, FailedAreTasks, FailedStand, take_in, kill_all, lose_all, held_there, lost_there, come, live_in, winners_in, AreRestorable, configure_one, carry_one, keep_one};
 ghost use Rattle.tez_vertex_view.specs.Elsewhere.{IsElsewhere};
@@ -133,4 +133,11 @@ pub fn readings_agree()
     ensures next { (c : ConfValues) (past : Past) (t : TaskId) → next_of (task_view c t past) ≡ next_attempt past t }
     ensures done { (g : Dag) (c : ConfValues) (past : Past) (v : ℕ) → is_vertex_done g v past ≡ ((vertex_view c v past).configured && list_all has_winner (vertex_view c v past).tasks) }
     ensures failed { (c : ConfValues) (past : Past) (v : ℕ) → FewFailures c past → has_failed (vertex_view c v past) ≡ false }
+{}
+
+/// A task of a configured vertex is there, and so is that of a live attempt or of a winner.
+pub fn tasks_are_there()
+    ensures task { (g : Dag) (c : ConfValues) (past : Past) (t : TaskId) → IsMade g c past → is_task g past t ≡ true → (t.vertex.0 < length g.vertices) × (t.index < length (vertex_view c t.vertex.0 past).tasks) }
+    ensures live { (g : Dag) (c : ConfValues) (past : Past) (a : AttemptId) → IsMade g c past → IsAlive (stage a past) → is_task g past a.task ≡ true }
+    ensures winner { (g : Dag) (c : ConfValues) (past : Past) (t : TaskId) (w : AttemptId) → IsMade g c past → winner t past ≡ Some w → is_task g past t ≡ true }
 {}
