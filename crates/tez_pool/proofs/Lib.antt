@@ -1,5 +1,4 @@
 mod IndexLemmas
 mod PlaceLemmas
 mod PoolLemmas
-mod TournamentLemmas
 mod VictimLemmas

@@ -14,7 +14,7 @@ use Rattle.tez_pool.specs.declared.place.Held.{Held}
 use Rattle.tez_pool.specs.declared.place.Place.{Place}
 use Rattle.tez_pool.specs.Table.{free, is_by, holds, is_free, who}
 use Rattle.tez_pool.specs.Index.{held_at}
-use Rattle.tez_pool.proofs.TournamentLemmas.{position_at, position_nowhere}
+use Rattle.tez_tournament.proofs.TreeLemmas.{position_at, position_nowhere}
 
 -- ---- reading and writing
 

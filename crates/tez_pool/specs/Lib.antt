@@ -2,5 +2,4 @@ pub mod Index
 pub mod Kept
 pub mod State
 pub mod Table
-pub mod Tournament
 pub mod Victim

@@ -8,7 +8,6 @@ mod places;
 mod pool;
 #[cfg(test)]
 mod tests;
-mod tournament;
 mod victim;
 
 pub use place::{Held, Place};

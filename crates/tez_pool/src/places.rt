@@ -4,7 +4,7 @@ ghost use Rattle.tez_lists.specs.Numbers.{numbers_from};
 ghost use Rattle.tez_pool.specs.Table.{free, is_free};
 
 use crate::place::Place;
-use crate::tournament::Tournament;
+use tez_tournament::Tournament;
 use std::alloc::{AllocError, Global};
 use std::marker::Model;
 

@@ -1,22 +1,19 @@
-//! A set of places that tells the least of them at once.
 ghost use Rattle.std.specs.Prelude.{◌≡◌, ℕ, ◌+◌, ◌/◌, ◌<◌, ◌≤◌, ◌≢◌, ◌^◌, true, false, length, position, slice_set, replicate, drop, IfOk};
-ghost use Rattle.tez_pool.specs.Tournament.{earlier, leaf, IsMatch};
+ghost use Rattle.tez_tournament.specs.Tree.{earlier, leaf, IsMatch};
 
 use std::alloc::{AllocError, Global};
 use std::marker::Model;
 
-/// Which places are in a set, as a list of truth values. The nodes are those of a complete
-/// binary tree in one list, with the places as its leaves: each node names the least place of
-/// the set below it, as the winner of a tournament.
+/// A set of numbers below a bound, of which contracts see a list of truth values.
 #[derive(Drop)]
-pub(crate) struct Tournament {
+pub struct Tournament {
     nodes: Vec<Option<u32>>,
     count: usize,
 }
 
 impl Model for Tournament {
     ghost use Rattle.std.specs.Prelude.{Bool, List, map, drop, is_some};
-    ghost use Rattle.tez_pool.specs.Tournament.{IsTournament};
+    ghost use Rattle.tez_tournament.specs.Tree.{IsTournament};
 
     ghost Value = { List Bool };
 
@@ -26,7 +23,7 @@ impl Model for Tournament {
 }
 
 impl Tournament {
-    /// The empty set of so many places.
+    /// The empty set of numbers below `count`. Takes time and memory in `count`.
     pub fn new(alloc: Global, count: u32) -> Result<Tournament, AllocError>
         ensures { IfOk result (λ t. t ≡ replicate count false) }
     {
@@ -37,29 +34,30 @@ impl Tournament {
         })
     }
 
-    /// The least place of the set.
+    /// The least number of the set.
     pub fn least(&self) -> Option<u32>
         ensures { result ≡ position (λ b. b) self.now }
     {
         if self.count == 0 { None } else { self.nodes[1] }
     }
 
-    /// Puts a place into the set, or takes it out. Takes logarithmic time in the places.
-    pub fn set(&mut self, place: u32, present: bool)
-        requires { place < length self.old }
-        ensures { self.new ≡ slice_set self.old place present }
+    /// Puts a number into the set, or takes it out. Takes no memory, and logarithmic time in the
+    /// bound.
+    pub fn set(&mut self, number: u32, present: bool)
+        requires { number < length self.old }
+        ensures { self.new ≡ slice_set self.old number present }
     {
-        let at = self.count + place as usize;
-        self.nodes[at] = leaf(place, present);
+        let at = self.count + number as usize;
+        self.nodes[at] = leaf(number, present);
         replay(self.nodes.as_mut_slice(), self.count, at);
     }
 }
 
-// The leaf of a place.
-fn leaf(place: u32, present: bool) -> Option<u32>
-    ensures { result ≡ leaf place present }
+// The leaf of a number.
+fn leaf(number: u32, present: bool) -> Option<u32>
+    ensures { result ≡ leaf number present }
 {
-    if present { Some(place) } else { None }
+    if present { Some(number) } else { None }
 }
 
 // The lesser of two, where there are two.

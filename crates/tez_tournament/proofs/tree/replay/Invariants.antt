@@ -1,6 +1,6 @@
 use Rattle.std.proofs.Common.{◌≡◌, ℕ, ◌+◌, ◌/◌, ◌<◌, ◌≢◌, length, drop}
-use Rattle.tez_pool.specs.Tournament.{IsMatch}
-use Rattle.tez_pool.proofs.tournament.replay.Given as goal
+use Rattle.tez_tournament.specs.Tree.{IsMatch}
+use Rattle.tez_tournament.proofs.tree.replay.Given as goal
 
 abbrev pub invariant-loop-node : goal.invariant-loop-node
 invariant-loop-node l = record {

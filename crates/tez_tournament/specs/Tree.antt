@@ -14,7 +14,7 @@ node_at nodes k = slice_index_or nodes k None
 abbrev pub IsMatch : List (Option ℕ) → ℕ → Type 0
 IsMatch nodes k = node_at nodes k ≡ earlier (node_at nodes (2 * k)) (node_at nodes (2 * k + 1))
 
--- the leaf of a place names it, or nothing
+-- the leaf of a number names it, or nothing
 abbrev pub leaf : ℕ → Bool → Option ℕ
 leaf p present = if present then Some p else None
 

@@ -4,7 +4,7 @@ use Rattle.std.proofs.Common.{ap, sym, ◌∙◌, subst, arith, inl, inr, set, g
 use Rattle.std.proofs.lemmas.Bool.{cases_lt, cases_eq}
 use Rattle.std.proofs.lemmas.List.{get_or-set_same, get_or-set_other, length-drop, length-map, length-replicate, get_or-drop, get_or_past, get_or_default, drop-set-add, map-set}
 use Rattle.std.proofs.lemmas.List.Sums.{position_or_len_is}
-use Rattle.tez_pool.specs.Tournament.{earlier, node_at, IsMatch, leaf, IsTournament}
+use Rattle.tez_tournament.specs.Tree.{earlier, node_at, IsMatch, leaf, IsTournament}
 
 -- ---- the winner is no later than any leaf
 
