@@ -4,9 +4,9 @@ ghost use Rattle.tez_lists.specs.Numbers.{numbers_from};
 ghost use Rattle.tez_pool.specs.Table.{free, is_free};
 
 use crate::place::Place;
-use tez_tournament::Tournament;
 use std::alloc::{AllocError, Global};
 use std::marker::Model;
+use tez_tournament::Tournament;
 
 /// The places, of which contracts see the list.
 #[derive(Drop)]

@@ -129,7 +129,7 @@ fn refuses_a_journal(rt: HostRuntime) -> Result<(), Fail> {
 fn keeps_the_file_of_the_journal(rt: HostRuntime) -> Result<(), Fail> {
     fs::write(&rt, "tez.journal", "old")?;
     let mut disk = FileDisk::new(&rt);
-    disk.reserve(3)?;
+    disk.reserve(6)?;
     assert_eq!(rt; disk.size(), Ok(3));
     assert_eq!(rt; disk.write_at(3, b"new"), Ok(()));
     assert_eq!(rt; disk.write_at(1, b"-"), Ok(()));
@@ -137,6 +137,7 @@ fn keeps_the_file_of_the_journal(rt: HostRuntime) -> Result<(), Fail> {
     disk.power_cut();
     let mut into = [0u8; 5];
     let mut later = FileDisk::new(&rt);
+    later.reserve(1)?;
     assert_eq!(rt; later.read_at(1, &mut into), Ok(()));
     assert_eq!(rt; into.as_slice(), b"-dnew".as_slice());
     assert_eq!(rt; later.size(), Ok(6));
