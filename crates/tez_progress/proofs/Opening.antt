@@ -1,4 +1,5 @@
 -- What a new master finds is what stands after its start.
+--     stands_config      once the configurations stand
 --     opening_fits       what stands fits the plan, if what is found does
 use Rattle.std.specs.Prelude.{◌≡◌, ℕ, ◌<◌, ◌==◌, ◌&&◌, nat_lt, Bool, true, false, if◌then◌else◌, List, [], ◌∷◌, ◌++◌, map, length, Option, Some, None, is_none, refl}
 use Rattle.std.proofs.Common.{inl, ap, sym, ◌∙◌, subst}
@@ -69,6 +70,11 @@ after_stands g past (x ∷ xs) v =
     ∙ after_stands g (extend past (stands_if g past x)) xs v
     ∙ after_one g past x v (found_at xs v)
 
+pub stands_config : (g : Dag) (past : Past) (s : Standing) (v : ℕ)
+    → config v (extend (opened_at s past) (each_after (stands_if g) (opened_at s past) s.configured)) ≡ (if is_vertex g v then found_at s.configured v else None)
+unfolding stood
+stands_config g past s v = after_stands g (opened_at s past) s.configured v
+
 after_carried : (past : Past) (xs : List (TaskId × ℕ)) (v : ℕ) → config v (extend past (carried_entries xs)) ≡ config v past
 after_carried past [] v = refl
 after_carried past (x ∷ xs) v = after_carried (Carried x.0 x.1 ∷ past) xs v
@@ -95,7 +101,7 @@ opened_config g past s v =
     ∙ ap (config v) (extend-append (extend first stands) carried kept)
     ∙ after_kept g (extend (extend first stands) carried) s.kept v
     ∙ after_carried (extend first stands) s.failed v
-    ∙ after_stands g first s.configured v
+    ∙ stands_config g past s v
 
 -- the feeder of a vertex is a vertex
 feeder_inside : (g : Dag) (v u : ℕ) → IsValid g → is_vertex g v ≡ true → feed g v ≡ ByVertex u → is_vertex g u ≡ true
