@@ -1,0 +1,6 @@
+mod FlagLemmas
+mod EdgeLemmas
+mod VertexLemmas
+mod SeenLemmas
+mod ScheduleLemmas
+mod PlanLemmas

@@ -1,0 +1,9 @@
+use Rattle.std.proofs.Common.{◌≡◌, arith, ap, sym}
+use Rattle.tez_schedule.proofs.VertexLemmas.{open_sized, fed_kept}
+use Rattle.tez_schedule.proofs.vertex.VertexSchedule.set_fed.Goals as goal
+
+pub set-requires-then-task-self : goal.set-requires-then-task-self
+set-requires-then-task-self c = omega (arith, open_sized _ _ c.self.invariant)
+
+pub invariant_of-self : goal.invariant_of-self
+invariant_of-self c = rw (c.set-then-task-self.ensures, c.is_open-opens.ensures, c.set.ensures) (fed_kept _ _ c.args.task c.args.has c.self.invariant)

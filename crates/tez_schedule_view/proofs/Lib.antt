@@ -1,0 +1,13 @@
+pub mod Lists
+pub mod Beginning
+pub mod Seeing
+pub mod Asking
+pub mod Staying
+pub mod Changing
+pub mod Told
+pub mod Winning
+pub mod Losing
+pub mod ByEvent
+pub mod Queueing
+pub mod Answering
+pub mod Bytes
