@@ -1,7 +1,6 @@
 -- Flags and how many of them are set.
-use Rattle.std.specs.Prelude.{◌≡◌, ℕ, ◌+◌, ◌-◌, ◌<◌, ◌≤◌, Bool, true, false, cond, List, length, refl}
-use Rattle.std.specs.List.{count_by}
-use Rattle.std.proofs.Common.{ap, arith, get_or, set, sum_by}
+use Rattle.std.specs.Prelude.{◌≡◌, ℕ, ◌+◌, ◌-◌, ◌<◌, ◌≤◌, Bool, cond, List, length}
+use Rattle.std.proofs.Common.{ap, arith, get_or, set}
 use Rattle.std.proofs.lemmas.List.Sums.{count_by-le-length, sum_by-set, get_or-le-sum_by}
 use Rattle.tez_schedule.specs.Table.{how_many}
 

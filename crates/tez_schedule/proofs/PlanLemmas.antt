@@ -1,8 +1,8 @@
 -- The vertices of a plan, and the edges over which they are fed.
-use Rattle.std.specs.Prelude.{◌≡◌, ◌≢◌, ℕ, zero, suc, ◌+◌, ◌*◌, ◌<◌, ◌≤◌, ◌⊎◌, min, Bool, true, false, not, ◌&&◌, ◌||◌, ◌==◌, nat_lt, if◌then◌else◌, List, [], ◌∷◌, ◌++◌, map, length, slice_get, take, drop, Option, Some, None, is_some, IfSome, refl}
+use Rattle.std.specs.Prelude.{◌≡◌, ◌≢◌, ℕ, zero, suc, ◌+◌, ◌*◌, ◌<◌, ◌≤◌, ◌⊎◌, min, Bool, true, false, not, ◌&&◌, ◌||◌, ◌==◌, nat_lt, if◌then◌else◌, List, [], ◌∷◌, ◌++◌, map, length, slice_get, take, Option, Some, None, is_some, IfSome, refl}
 use Rattle.std.specs.List.{filter, enumerate_from, sum_by}
-use Rattle.std.specs.Option.{option_map, option_map_or}
-use Rattle.std.proofs.Common.{zero-mul, ap, sym, ◌∙◌, arith, subst, inl, inr, true≢false, add-zero, zero-add, append_assoc}
+use Rattle.std.specs.Option.{option_map_or}
+use Rattle.std.proofs.Common.{zero-mul, ap, sym, ◌∙◌, arith, subst, inl, inr, true≢false, zero-add}
 use Rattle.std.proofs.lemmas.Bool.{ltb-false, cases_lt}
 use Rattle.std.proofs.lemmas.Bool.Decides.{nat_tests}
 use Rattle.std.proofs.lemmas.List.{take_all}
@@ -17,14 +17,14 @@ use Rattle.tez_plan.specs.declared.parts.EdgeSpec.{EdgeSpec}
 use Rattle.tez_plan.specs.declared.parts.VertexSpec.{VertexSpec}
 use Rattle.tez_plan.specs.declared.parts.Movement.{Movement}
 use Rattle.tez_plan.specs.declared.parts.Movement.TheVariants.{OneToOne, Broadcast, ScatterGather}
-use Rattle.tez_plan.specs.Faults.{IsValid, incoming, primaries, mixed_primary, no_primary, partitions_differ}
+use Rattle.tez_plan.specs.Faults.{IsValid, incoming, primaries}
 use Rattle.tez_plan.proofs.CheckLemmas.{valid_parts}
 use Rattle.tez_conf.specs.declared.values.ConfValues.{ConfValues}
-use Rattle.tez_history.specs.Shape.{Edge, Feed, feed_by, feed, rule_by, rule, has_source, edges_to, primary_edges, first_source}
+use Rattle.tez_history.specs.Shape.{Edge, feed_by, rule_by, rule, has_source, edges_to, primary_edges, first_source}
 use Rattle.tez_schedule.specs.declared.input.Input.{Input}
-use Rattle.tez_schedule.specs.State.{VertexState, ScheduleState, EdgeState}
+use Rattle.tez_schedule.specs.State.{VertexState, EdgeState}
 use Rattle.tez_schedule.specs.Kept.{HasInput, Layout, layout, planned_at, IsLaidOut, AreLaidOut, GivesFew, IsKept, planned_sources}
-use Rattle.tez_schedule.specs.Planned.{input_of, one_to_one_source, planned_vertex, planned_edge, planned_schedule}
+use Rattle.tez_schedule.specs.Planned.{input_of, one_to_one_source, planned_vertex, planned_edge}
 use Rattle.tez_schedule.proofs.VertexLemmas.{length_each}
 use Rattle.tez_schedule.proofs.ScheduleLemmas.{past}
 

@@ -1,9 +1,9 @@
 -- The first of numbers that passes a test, and what a schedule keeps.
-use Rattle.std.specs.Prelude.{◌≡◌, ℕ, zero, suc, ◌+◌, ◌<◌, ◌≤◌, Bool, true, false, if◌then◌else◌, List, [], ◌∷◌, ◌++◌, map, length, slice_get, slice_set, take, drop, Option, Some, None, is_some, refl}
+use Rattle.std.specs.Prelude.{◌≡◌, ℕ, zero, suc, ◌+◌, ◌<◌, ◌≤◌, Bool, true, false, if◌then◌else◌, List, [], ◌∷◌, ◌++◌, map, length, slice_get, slice_set, take, drop, Option, Some, None, refl}
 use Rattle.std.specs.List.{find}
-use Rattle.std.specs.Option.{option_map_or, option_and_then}
-use Rattle.std.proofs.Common.{ap, sym, ◌∙◌, arith, subst, get_or, set, true≢false, add-zero, zero-add}
-use Rattle.std.proofs.lemmas.List.{length-map, length-set}
+use Rattle.std.specs.Option.{option_map_or}
+use Rattle.std.proofs.Common.{ap, sym, ◌∙◌, arith, subst, get_or, set, add-zero, zero-add}
+use Rattle.std.proofs.lemmas.List.{length-map}
 use Rattle.std.proofs.lemmas.Option.{same_Some}
 use Rattle.std.specs.Prelude.{◌==◌}
 use Rattle.tez_ids.specs.declared.TaskId.{TaskId}
@@ -12,8 +12,8 @@ use Rattle.tez_vman.specs.declared.seen.Config.{Config}
 use Rattle.tez_lists.specs.Numbers.{numbers_from}
 use Rattle.tez_lists.proofs.Tables.{whole, length-each}
 use Rattle.tez_schedule.specs.State.{ScheduleState, VertexState, EdgeState}
-use Rattle.tez_schedule.specs.Kept.{Layout, layout, IsKept, AreLaidOut}
-use Rattle.tez_schedule.specs.Table.{changed_at, configured_with, scheduled_with, won_with, fed_with, with_winner, with_made, made_with, asked_at}
+use Rattle.tez_schedule.specs.Kept.{layout, IsKept, AreLaidOut}
+use Rattle.tez_schedule.specs.Table.{changed_at, configured_with, scheduled_with, won_with, fed_with, with_winner, with_made, made_with}
 
 pub read : {X : Type 0} (xs : List X) (i : ℕ) (x : X) → i < length xs → x ≡ get_or xs i x → slice_get xs i ≡ Some x
 read [] i x l e = absurd (omega arith)

@@ -1,8 +1,7 @@
 -- What is known of a vertex.
-use Rattle.std.specs.Prelude.{◌≡◌, ◌≢◌, ℕ, zero, suc, ◌+◌, ◌-◌, ◌<◌, ◌≤◌, Bool, true, false, cond, not, ◌&&◌, ◌==◌, is_none, if◌then◌else◌, ◌⊎◌, List, [], ◌∷◌, ◌++◌, map, length, replicate, position, slice_get, slice_set, Option, Some, None, unwrap_or, take, drop, IfSome, refl, nat_lt}
-use Rattle.std.specs.List.{find, position_from, count_by}
-use Rattle.std.proofs.Common.{ap, sym, ◌∙◌, arith, subst, add-one, set, get_or, eqb, inl, inr, true≢false}
-use Rattle.std.proofs.lemmas.Bool.{cases_lt}
+use Rattle.std.specs.Prelude.{◌≡◌, ◌≢◌, ℕ, zero, suc, ◌+◌, ◌-◌, ◌<◌, ◌≤◌, Bool, true, false, cond, not, ◌&&◌, ◌==◌, is_none, if◌then◌else◌, ◌⊎◌, List, [], ◌∷◌, map, length, replicate, position, Option, Some, None, refl, nat_lt}
+use Rattle.std.specs.List.{find, position_from}
+use Rattle.std.proofs.Common.{ap, sym, ◌∙◌, arith, subst, add-one, set, eqb, inl, inr, true≢false}
 use Rattle.std.proofs.lemmas.Bool.Decides.{nat_tests, eqb_tells}
 use Rattle.std.proofs.lemmas.Iterator.Adapters.{position_from-zero}
 use Rattle.std.specs.Option.{option_map_or}

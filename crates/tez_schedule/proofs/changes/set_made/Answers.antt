@@ -1,4 +1,4 @@
-use Rattle.std.proofs.Common.{◌≡◌, ◌<◌, ◌∙◌, ap, sym, arith, get_or, set, length}
+use Rattle.std.proofs.Common.{◌∙◌, ap, sym, set}
 use Rattle.std.proofs.lemmas.List.{length-set}
 use Rattle.tez_lists.proofs.Tables.{each_more}
 use Rattle.tez_schedule.specs.Table.{made_with}

@@ -1,4 +1,4 @@
-use Rattle.std.proofs.Common.{◌≡◌, ◌+◌, ◌<◌, ◌≤◌, ◌∙◌, ap, sym, arith, refl, length, map, Vec, Global}
+use Rattle.std.proofs.Common.{◌≡◌, ◌+◌, ◌<◌, ◌∙◌, ap, sym, arith, refl, length, map, Vec, Global}
 use Rattle.std.proofs.lemmas.List.{length-append}
 use Rattle.tez_schedule.specs.declared.input.Input.{Input}
 use Rattle.tez_schedule.specs.Planned.{input_of}

@@ -1,7 +1,6 @@
-use Rattle.std.proofs.Common.{◌≡◌, ℕ, ◌∙◌, ap, sym, replicate}
+use Rattle.std.proofs.Common.{◌≡◌, ℕ, ◌∙◌, ap, replicate}
 use Rattle.tez_ids.specs.declared.VertexId.{VertexId}
 use Rattle.tez_plan.specs.Dag.{source_of, vertex, tasks_of}
-use Rattle.tez_schedule.specs.State.{EdgeState}
 use Rattle.tez_schedule.specs.Planned.{planned_edge}
 use Rattle.tez_schedule.proofs.PlanLemmas.{one_more}
 use Rattle.tez_schedule.proofs.planned.planned_edges.Goals as goal

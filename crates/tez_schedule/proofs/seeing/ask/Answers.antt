@@ -1,4 +1,4 @@
-use Rattle.std.proofs.Common.{◌≡◌, ◌<◌, ◌∙◌, ap, arith, refl, get_or, set, length, max}
+use Rattle.std.proofs.Common.{◌<◌, ◌∙◌, ap, arith, get_or, set, length, max}
 use Rattle.std.proofs.lemmas.List.{length-set, get_or_default}
 use Rattle.tez_lists.proofs.Tables.{each_more}
 use Rattle.tez_schedule.specs.Table.{asked_at}

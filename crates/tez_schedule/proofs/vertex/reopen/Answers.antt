@@ -1,6 +1,5 @@
-use Rattle.std.proofs.Common.{◌≡◌, ◌<◌, ◌∙◌, ap, sym, arith, refl, get_or, set, length, take, drop, false}
+use Rattle.std.proofs.Common.{◌<◌, ◌∙◌, ap, arith, get_or, set, length, false}
 use Rattle.std.proofs.lemmas.List.{length-set, get_or_default}
-use Rattle.tez_lists.specs.Tables.{each_from}
 use Rattle.tez_lists.proofs.Tables.{each_more}
 use Rattle.tez_schedule.specs.Table.{open_by}
 use Rattle.tez_schedule.proofs.vertex.reopen.Goals as goal

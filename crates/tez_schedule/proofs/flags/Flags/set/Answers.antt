@@ -1,4 +1,4 @@
-use Rattle.std.proofs.Common.{arith, set, length}
+use Rattle.std.proofs.Common.{arith, set}
 use Rattle.std.proofs.lemmas.List.{length-set}
 use Rattle.tez_schedule.proofs.FlagLemmas.{one_flag, few_set}
 use Rattle.tez_schedule.proofs.flags.Flags.set.Goals as goal

@@ -1,4 +1,4 @@
-use Rattle.std.proofs.Common.{◌≡◌, ◌≤◌, ◌∙◌, ap, sym, subst, length, arith}
+use Rattle.std.proofs.Common.{◌≤◌, ◌∙◌, ap, subst, length}
 use Rattle.std.proofs.lemmas.List.{length-replicate}
 use Rattle.tez_schedule.proofs.PlanLemmas.{first_is_kept}
 use Rattle.tez_schedule.proofs.schedule.Schedule.new.Goals as goal

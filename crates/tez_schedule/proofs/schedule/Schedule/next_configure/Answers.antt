@@ -1,4 +1,4 @@
-use Rattle.std.proofs.Common.{◌≡◌, ◌<◌, ◌∙◌, ap, sym, arith, is_some, length, true, false, subst}
+use Rattle.std.proofs.Common.{◌≡◌, ◌<◌, ◌∙◌, ap, sym, arith, is_some, length, true, false}
 use Rattle.tez_schedule.specs.State.{ScheduleState}
 use Rattle.tez_schedule.specs.Table.{configures_at}
 use Rattle.tez_schedule.proofs.ScheduleLemmas.{found_first, none_more}

@@ -1,4 +1,4 @@
-use Rattle.std.proofs.Common.{◌≡◌, ◌<◌, ◌∙◌, ap, sym, arith, is_some, length, true, false}
+use Rattle.std.proofs.Common.{◌≡◌, ◌<◌, ◌∙◌, ap, sym, arith, is_some, length, true}
 use Rattle.std.specs.Option.{option_and_then}
 use Rattle.tez_schedule.specs.State.{ScheduleState}
 use Rattle.tez_schedule.specs.Table.{next_at}

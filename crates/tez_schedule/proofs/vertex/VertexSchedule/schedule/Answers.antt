@@ -1,4 +1,4 @@
-use Rattle.std.proofs.Common.{◌≡◌, arith, ap, sym, set, true, false, List, Bool}
+use Rattle.std.proofs.Common.{arith}
 use Rattle.tez_schedule.proofs.VertexLemmas.{open_sized, scheduled_kept}
 use Rattle.tez_schedule.proofs.vertex.VertexSchedule.schedule.Goals as goal
 

@@ -1,4 +1,4 @@
-use Rattle.std.proofs.Common.{◌≡◌, arith, ap, sym}
+use Rattle.std.proofs.Common.{arith}
 use Rattle.tez_schedule.proofs.VertexLemmas.{open_sized, fed_kept}
 use Rattle.tez_schedule.proofs.vertex.VertexSchedule.set_fed.Goals as goal
 

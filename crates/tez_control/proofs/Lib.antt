@@ -1,0 +1,16 @@
+pub mod Lasting
+pub mod Parts
+pub mod Own
+pub mod Simple
+pub mod Configure
+pub mod Fetching
+pub mod Losing
+pub mod EachEvent
+pub mod Firsts
+pub mod FirstQueued
+pub mod Chosen
+pub mod Lines
+pub mod Reasons
+pub mod ShelfReadings
+pub mod TaskReadings
+pub mod Takes

@@ -1,0 +1,6 @@
+pub mod DepthLemmas
+pub mod FirstLemmas
+pub mod ListLemmas
+pub mod OrderLemmas
+pub mod SetLemmas
+pub mod Shallowest
