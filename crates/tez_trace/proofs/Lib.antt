@@ -1,0 +1,4 @@
+pub mod Numbers
+pub mod Attempts
+pub mod Back
+pub mod OneTrace
