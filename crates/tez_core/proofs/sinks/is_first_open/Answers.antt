@@ -1,0 +1,21 @@
+use Rattle.std.proofs.Common.{◌∙◌, ◌==◌, ap, sym, false, Option}
+use Rattle.std.specs.Option.{option_map, option_map_or}
+use Rattle.tez_ids.specs.declared.VertexId.{VertexId}
+use Rattle.tez_history.specs.Shape.{sinks}
+use Rattle.tez_control.specs.Read.{flag}
+use Rattle.tez_core.proofs.Firsts.{first_by}
+use Rattle.tez_core.proofs.sinks.is_first_open.Goals as goal
+
+pub returns-in-Some : goal.returns-in-Some
+returns-in-Some c =
+    let v = c.args.v.0 in
+    let found = ap (λ (o : Option VertexId). option_map_or (λ w. w == v) (option_map (λ u. u.0) o) false) (sym c.in-Some.is) in
+    let first = ap (λ o. option_map_or (λ w. w == v) o false) c.first_open.ensures in
+    c.eq.ensures ∙ found ∙ first ∙ sym (first_by (flag c.args.done.now) (sinks c.args.p.now) v)
+
+pub returns-in-None : goal.returns-in-None
+returns-in-None c =
+    let v = c.args.v.0 in
+    let found = ap (λ (o : Option VertexId). option_map_or (λ w. w == v) (option_map (λ u. u.0) o) false) (sym c.in-None.is) in
+    let first = ap (λ o. option_map_or (λ w. w == v) o false) c.first_open.ensures in
+    found ∙ first ∙ sym (first_by (flag c.args.done.now) (sinks c.args.p.now) v)

@@ -1,0 +1,202 @@
+//! Which events may come, and why another one may not.
+ghost use Rattle.std.specs.Prelude.{◌≡◌};
+ghost use Rattle.tez_events.specs.declared.CoreEvent.{CoreEvent};
+ghost use Rattle.tez_control.specs.Read.{is_shallower_queued, depth_in};
+ghost use Rattle.tez_control.specs.Enabled.{enabled_in, is_lost, or_not_enabled, why_not};
+
+use crate::parts::Core;
+use crate::shallower::{any_shallower, depth_of};
+use tez_control::Why;
+use tez_events::CoreEvent;
+use tez_ids::{AttemptId, EdgeId, TaskId, VertexId};
+
+// An attempt that is there is no ground of its own.
+fn or_not_enabled(why: Option<Why>) -> Why
+    ensures { result ≡ or_not_enabled why }
+{
+    match why {
+        None => Why::NotEnabled,
+        Some(Why::Over) => Why::NotEnabled,
+        Some(Why::Down) => Why::NotEnabled,
+        Some(Why::OldEpoch) => Why::OldEpoch,
+        Some(Why::UnknownAttempt) => Why::UnknownAttempt,
+        Some(Why::AttemptEnded) => Why::AttemptEnded,
+        Some(Why::Stranger) => Why::NotEnabled,
+        Some(Why::NotEnabled) => Why::NotEnabled,
+    }
+}
+
+impl Core {
+    /// Whether a vertex may be configured now.
+    pub fn may_configure(&self, v: VertexId) -> bool
+        ensures { result ≡ enabled_in self.now (CoreEvent.Configure v) }
+    {
+        self.is_running() && self.schedule.configuration(v).is_some()
+    }
+
+    /// Whether a task may get its first attempt now.
+    pub fn may_queue(&self, t: TaskId) -> bool
+        ensures { result ≡ enabled_in self.now (CoreEvent.Queue t) }
+    {
+        self.is_running() && self.schedule.may_queue(t)
+    }
+
+    /// Whether an attempt may take a place now: it is queued, and the place is free.
+    pub fn may_place(&self, a: AttemptId, place: u32) -> bool
+        ensures { result ≡ enabled_in self.now (CoreEvent.Place a place) }
+    {
+        self.is_running() && self.is_queued(a) && self.is_free_place(place)
+    }
+
+    /// Whether an attempt may fetch an input now: it waits, has not fetched it, and a winner is
+    /// behind it.
+    pub fn may_fetch(&self, a: AttemptId, e: EdgeId, input: u32) -> bool
+        ensures { result ≡ enabled_in self.now (CoreEvent.Fetch a e input) }
+    {
+        self.is_running()
+            && self.waits(a)
+            && !self.router.is_fetched(a, e, input)
+            && self.source_of(a, e, input).is_some()
+    }
+
+    /// Whether the order of an attempt may go out: it waits, and misses no input.
+    pub fn may_send(&self, a: AttemptId) -> bool
+        ensures { result ≡ enabled_in self.now (CoreEvent.Send a) }
+    {
+        self.is_running() && self.waits(a) && self.router.missing(a) == 0
+    }
+
+    /// Whether a waiting attempt may give up its place: no place is free, and a queued attempt has a
+    /// lesser depth. Takes time in the tasks.
+    pub fn may_preempt(&self, a: AttemptId) -> bool
+        ensures { result ≡ enabled_in self.now (CoreEvent.Preempt a) }
+    {
+        self.is_running()
+            && self.waits(a)
+            && self.free_place().is_none()
+            && self.is_shallower_queued(a)
+    }
+
+    fn is_shallower_queued(&self, a: AttemptId) -> bool
+        ensures { result ≡ is_shallower_queued self.now (depth_in self.now a) }
+    {
+        any_shallower(
+            &self.plan,
+            &self.vertices,
+            depth_of(&self.plan, a.task.vertex),
+        )
+    }
+
+    /// Whether an attempt may fail: its order is out.
+    pub fn may_fail(&self, a: AttemptId) -> bool
+        ensures { result ≡ enabled_in self.now (CoreEvent.Fail a) }
+    {
+        self.is_running() && self.processes(a)
+    }
+
+    /// Whether the node of a slot may be lost.
+    pub fn may_lose_node(&self, slot: u16) -> bool
+        ensures { result ≡ enabled_in self.now (CoreEvent.LoseNode slot) }
+    {
+        self.up && slot < self.conf.nodes()
+    }
+
+    /// Whether the output of a task's winner may be lost: it is on a shelf.
+    pub fn may_lose_output(&self, t: TaskId) -> bool
+        ensures { result ≡ enabled_in self.now (CoreEvent.LoseOutput t) }
+    {
+        self.up && self.is_lost(self.winner_of(t))
+    }
+
+    fn is_lost(&self, winner: Option<AttemptId>) -> bool
+        ensures { result ≡ is_lost self.now winner }
+    {
+        match winner {
+            Some(w) => self.is_on_shelf(w),
+            None => false,
+        }
+    }
+
+    /// Whether the text of a sink may be put aside: all is done, and it is the first that is not.
+    pub fn may_ready(&self, v: VertexId) -> bool
+        ensures { result ≡ enabled_in self.now (CoreEvent.Ready v) }
+    {
+        self.is_running() && self.are_done() && !self.committing && self.is_first_unreadied(v)
+    }
+
+    /// Whether the commit may begin: every sink's text is put aside.
+    pub fn may_start_commit(&self) -> bool
+        ensures { result ≡ enabled_in self.now CoreEvent.CommitStart }
+    {
+        self.is_running() && !self.committing && self.are_all_readied()
+    }
+
+    /// Whether the text of a sink may be published: it is the first that is not.
+    pub fn may_publish(&self, v: VertexId) -> bool
+        ensures { result ≡ enabled_in self.now (CoreEvent.Publish v) }
+    {
+        self.is_running() && self.committing && self.is_first_unpublished(v)
+    }
+
+    /// Whether the job may finish: every sink's text is published.
+    pub fn may_finish(&self) -> bool
+        ensures { result ≡ enabled_in self.now CoreEvent.Finish }
+    {
+        self.is_running() && self.committing && self.are_all_published()
+    }
+
+    /// Whether what is left over may be purged: the job is finished.
+    pub fn may_purge(&self) -> bool
+        ensures { result ≡ enabled_in self.now CoreEvent.Purge }
+    {
+        self.up && self.finished
+    }
+
+    /// Whether an event may come now. To open and to restart is not the master's.
+    pub fn is_enabled(&self, e: &CoreEvent) -> bool
+        ensures { result ≡ enabled_in self.now e.now }
+    {
+        match *e {
+            CoreEvent::Open => false,
+            CoreEvent::Configure(v) => self.may_configure(v),
+            CoreEvent::Queue(t) => self.may_queue(t),
+            CoreEvent::Place(a, place) => self.may_place(a, place),
+            CoreEvent::Fetch(a, e, input) => self.may_fetch(a, e, input),
+            CoreEvent::Send(a) => self.may_send(a),
+            CoreEvent::Preempt(a) => self.may_preempt(a),
+            CoreEvent::Fail(a) => self.may_fail(a),
+            CoreEvent::LoseNode(slot) => self.may_lose_node(slot),
+            CoreEvent::LoseOutput(t) => self.may_lose_output(t),
+            CoreEvent::Restart => false,
+            CoreEvent::Ready(v) => self.may_ready(v),
+            CoreEvent::CommitStart => self.may_start_commit(),
+            CoreEvent::Publish(v) => self.may_publish(v),
+            CoreEvent::Finish => self.may_finish(),
+            CoreEvent::Purge => self.may_purge(),
+        }
+    }
+
+    /// Why an event is ignored that may not come.
+    pub fn why_not(&self, e: &CoreEvent) -> Why
+        ensures { result ≡ why_not self.now e.now }
+    {
+        match *e {
+            CoreEvent::Open => Why::NotEnabled,
+            CoreEvent::Configure(_) => Why::NotEnabled,
+            CoreEvent::Queue(_) => Why::NotEnabled,
+            CoreEvent::Place(a, _) => or_not_enabled(self.why(a)),
+            CoreEvent::Fetch(a, _, _) => or_not_enabled(self.why(a)),
+            CoreEvent::Send(a) => or_not_enabled(self.why(a)),
+            CoreEvent::Preempt(a) => or_not_enabled(self.why(a)),
+            CoreEvent::Fail(a) => or_not_enabled(self.why(a)),
+            CoreEvent::LoseNode(_) => Why::NotEnabled,
+            CoreEvent::LoseOutput(_) => Why::NotEnabled,
+            CoreEvent::Restart => Why::NotEnabled,
+            CoreEvent::Ready(_) => Why::NotEnabled,
+            CoreEvent::CommitStart => Why::NotEnabled,
+            CoreEvent::Publish(_) => Why::NotEnabled,
+            CoreEvent::Finish => Why::NotEnabled,
+            CoreEvent::Purge => Why::NotEnabled,
+        }
+    }
+}

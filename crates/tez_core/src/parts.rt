@@ -1,0 +1,36 @@
+//! The parts.
+use crate::lies::Lies;
+use std::marker::Model;
+use tez_conf::Conf;
+use tez_ids::Epoch;
+use tez_plan::Plan;
+use tez_pool::Pool;
+use tez_router::Router;
+use tez_schedule::Schedule;
+use tez_vertex::VertexMachine;
+
+/// The parts of a master that is up, and what it knows beside them.
+#[derive(Drop)]
+pub struct Core {
+    pub(crate) plan: Plan,
+    pub(crate) conf: Conf,
+    pub(crate) epoch: Epoch,
+    pub(crate) vertices: Vec<VertexMachine>,
+    pub(crate) pool: Pool,
+    pub(crate) router: Router,
+    pub(crate) schedule: Schedule,
+    pub(crate) lies: Vec<Lies>,
+    pub(crate) readied: Vec<bool>,
+    pub(crate) published: Vec<bool>,
+    pub(crate) committing: bool,
+    pub(crate) finished: bool,
+    pub(crate) up: bool,
+}
+
+impl Model for Core {
+    ghost use Rattle.tez_control.specs.State.{MasterState};
+
+    ghost Value = { MasterState };
+
+    ghost view = { λ m. record { plan = m.plan; conf = m.conf; epoch = m.epoch.0; vertices = m.vertices.items; pool = m.pool; router = m.router; schedule = m.schedule; lies = m.lies.items; readied = m.readied.items; published = m.published.items; committing = m.committing; finished = m.finished; up = m.up } };
+}
