@@ -3,18 +3,22 @@
 --     sorted_by_key      entries that are sorted
 --     records_with_is    the records of a key among entries are those among the records
 --     all_records        records that are sorted are records still
-use Rattle.std.proofs.Common.{◌≡◌, ℕ, ◌<◌, Bool, true, false, cond, List, [], ◌∷◌, ◌++◌, map, length, get_or, refl, sym, ap, ap₂, ◌∙◌, subst, arith, bytes_eq, filter, IsPermutation, IsSorted, is_lt, Ordering, Less, Equal, Greater, zero, suc}
-use Rattle.std.specs.List.{AllByRecursion, All}
+--     field_is_key       a key of one column is a field
+--     copies_are, copy_is, no_copy      copies of keys, beside records in turn
+--     in_order_is        what a look at each entry and the next tells
+use Rattle.std.proofs.Common.{◌≡◌, ℕ, ◌<◌, Bool, true, false, cond, List, [], ◌∷◌, ◌++◌, map, length, get_or, refl, sym, ap, ap₂, ◌∙◌, subst, arith, bytes_eq, filter, IsPermutation, IsSorted, is_lt, Ordering, Less, Equal, Greater, zero, suc, ◌+◌, ne_eqb, true≢false}
+use Rattle.std.specs.Prelude.{◌↔◌, IsTrue, if◌then◌else◌, not}
+use Rattle.std.specs.List.{AllByRecursion, All, IsAllAdjacentAnswer}
 use Rattle.std.specs.Ordering.{ordering_then}
 use Rattle.std.proofs.lemmas.List.{map-append}
 use Rattle.std.proofs.lemmas.List.Sorted.{IsPermutation-map, All-permutation}
 use Rattle.tez_lists.proofs.Cases.{cases, both}
 use Rattle.tez_record.specs.Line.{IsRecord}
-use Rattle.tez_record.specs.Field.{key}
+use Rattle.tez_record.specs.Field.{key, field}
 use Rattle.tez_record.specs.Bag.{compare, sort, place}
-use Rattle.tez_record.proofs.BagLemmas.{at_most, sort-IsPermutation, sum_by-same}
+use Rattle.tez_record.proofs.BagLemmas.{at_most, sort-IsPermutation}
 use Rattle.tez_values.specs.Heads.{has_key}
-use Rattle.tez_plain.specs.Keyed.{Entries, keys_in, records_in, with_key, records_with, AreInOrder, AreByKey}
+use Rattle.tez_plain.specs.Keyed.{Entries, keys_in, records_in, records_with, AreInOrder, AreByKey, copied_keys, one_each}
 use Rattle.tez_plain.proofs.OrderLemmas.{Entry}
 
 -- the records so far and those to come are all, and the keys are theirs
@@ -114,3 +118,37 @@ records_with_is cols k (e ∷ es) h =
     cases (bytes_eq k e.0)
     (λ t. let own : bytes_eq k (key cols e.1.now) ≡ true = ap (bytes_eq k) (sym here) ∙ t in rw (t, own) (ap (λ (rs : List (List ℕ)). e.1.now ∷ rs) (records_with_is cols k es rest)))
     (λ f. let own : bytes_eq k (key cols e.1.now) ≡ false = ap (bytes_eq k) (sym here) ∙ f in rw (f, own) (records_with_is cols k es rest))
+
+-- ---- keys that are lent
+
+pub field_is_key : (cols r : List ℕ) (d : ℕ) → length cols ≡ 1 → field r (get_or cols 0 d) ≡ key cols r
+field_is_key [] r d one = absurd (omega (arith, one))
+field_is_key (x ∷ []) r d one = refl
+field_is_key (x ∷ y ∷ cols) r d one = absurd (omega (arith, one))
+
+pub copies_are : (cols : List ℕ) (rs copies : List (List ℕ)) → (length cols ≡ 1 → ⊥) → copies ≡ copied_keys cols rs → copies ≡ one_each (key cols) rs
+copies_are cols rs copies more h = h ∙ ap (λ b. if b then [] else one_each (key cols) rs) (ne_eqb (length cols) 1 more)
+
+pub copy_is : (cols own line : List ℕ) (copies rest left more : List (List ℕ)) → copies ≡ one_each (key cols) left → left ≡ line ∷ more → copies ≡ own ∷ rest → (own ≡ key cols line) × (rest ≡ one_each (key cols) more)
+copy_is cols own line copies rest left more are first cut =
+    let both_ways : own ∷ rest ≡ key cols line ∷ one_each (key cols) more = sym cut ∙ are ∙ ap (one_each (key cols)) first in
+    (cc, cc)
+
+pub no_copy : (cols line : List ℕ) (copies left more : List (List ℕ)) → copies ≡ one_each (key cols) left → left ≡ line ∷ more → copies ≡ [] → ⊥
+no_copy cols line copies left more are first none =
+    let both_ways : [] ≡ key cols line ∷ one_each (key cols) more = sym none ∙ are ∙ ap (one_each (key cols)) first in
+    cc
+
+-- ---- a look at each entry and the next
+
+un_not : (b : Bool) → true ≡ not b → b ≡ false
+un_not true h = h
+un_not false h = refl
+
+falls : (es : Entries) (k : ℕ) → k + 1 < length es → ((d : Entry) → false ≡ not (is_lt (compare (get_or es (k + 1) d).0 (get_or es k d).0))) → AreInOrder es → ⊥
+falls [] k low h order = absurd (omega (arith, low))
+falls (e ∷ es) k low h order = both (ap not (order k e (omega arith) low)) (sym (h e))
+
+pub in_order_is : (es : Entries) (b : Bool) → IsAllAdjacentAnswer (λ x y r. r ≡ not (is_lt (compare y.0 x.0))) es b → IsTrue b ↔ AreInOrder es
+in_order_is es true h = (λ is. λ k d low high. un_not (is_lt (compare (get_or es (k + 1) d).0 (get_or es k d).0)) (h k d high), λ order. refl)
+in_order_is es false h = (λ is. absurd (true≢false (sym is)), λ order. absurd (falls es h.0 h.1 h.2 order))

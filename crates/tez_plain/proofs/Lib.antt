@@ -5,3 +5,4 @@ pub mod OrderLemmas
 pub mod KeyLemmas
 pub mod RowLemmas
 pub mod PairLemmas
+pub mod GoodLemmas

@@ -3,18 +3,18 @@
 --     order_from                  the order of neighbours is an order of all
 --     run_is, run_rest            the first run of entries has its key, and no other entry has
 --     found_run                   what a binary search finds is where a key begins
-use Rattle.std.proofs.Common.{◌≡◌, ℕ, zero, suc, ◌+◌, ◌<◌, ◌≤◌, Bool, true, false, not, cond, List, [], ◌∷◌, map, length, take, drop, get_or, refl, sym, ap, ◌∙◌, subst, arith, bytes_eq, filter, Option, Some, None, ltb-true, ltb-false, is_gt, is_le, is_lt, Less, Equal, Greater, Ordering, slice_index_or, slice_get}
+use Rattle.std.proofs.Common.{◌≡◌, ℕ, zero, suc, ◌+◌, ◌<◌, ◌≤◌, Bool, true, false, not, cond, List, [], ◌∷◌, length, take, drop, get_or, refl, sym, ap, ◌∙◌, subst, arith, bytes_eq, filter, Some, None, ltb-false, is_gt, is_le, is_lt, Less, Equal, Greater, Ordering}
 use Rattle.std.specs.Prelude.{nat_lt}
-use Rattle.std.specs.List.{AllByRecursion, AllWithin, position, position_or_len, list_any}
-use Rattle.std.specs.List.Sorted.{IsSortedByKey, IsPartitionedBy, IsPartitionPoint}
-use Rattle.std.specs.Ordering.{on, ordering_reverse}
+use Rattle.std.specs.List.{AllByRecursion, position, position_or_len}
+use Rattle.std.specs.List.Sorted.{IsPartitionedBy, IsPartitionPoint}
+use Rattle.std.specs.Ordering.{ordering_reverse}
 use Rattle.std.specs.Cmp.{IsTotalOrder, IsStrictWeakOrder, on_total}
 use Rattle.std.specs.Cmp.Lexicographic.{nat_list_cmp_total}
 use Rattle.std.proofs.lemmas.Bool.{or_parts}
 use Rattle.std.proofs.lemmas.List.Sorted.{ranks_by, sorted_far}
 use denote.Ref.{Bor}
 use Rattle.tez_lists.proofs.Cases.{cases, both}
-use Rattle.tez_lists.proofs.Sorted.{InOrder, IsUpTo, InOrder-from}
+use Rattle.tez_lists.proofs.Sorted.{InOrder, InOrder-from}
 use Rattle.tez_record.specs.Bag.{compare}
 use Rattle.tez_record.proofs.BagLemmas.{at_most, at_most-antisym, at_most-total, same_record, same_itself}
 use Rattle.tez_values.specs.Heads.{is_among}

@@ -3,7 +3,7 @@
 --     joined              pairs with a side that is sorted by key are the pairs of a join
 --     found_is            an entry with a key is there where the key is among the keys
 --     chosen_yes, chosen_no      what that tells
-use Rattle.std.proofs.Common.{◌≡◌, ℕ, Bool, true, false, cond, not, ◌||◌, ◌==◌, List, [], ◌∷◌, ◌++◌, map, length, refl, sym, ap, ap₂, ◌∙◌, append_assoc, filter, bytes_eq, ne_eqb, zero, suc, ◌+◌, ◌<◌, take, get_or, subst, arith}
+use Rattle.std.proofs.Common.{◌≡◌, ℕ, Bool, true, false, not, ◌==◌, List, [], ◌∷◌, ◌++◌, map, length, refl, sym, ap, ap₂, ◌∙◌, append_assoc, filter, bytes_eq, ne_eqb, zero, suc, ◌+◌, ◌<◌, take, get_or, subst, arith}
 use Rattle.std.specs.List.{AllByRecursion}
 use Rattle.std.proofs.lemmas.List.{take_more, map-append}
 use mathlib.Core.Bool.{beq}
@@ -14,7 +14,7 @@ use Rattle.tez_plan.specs.declared.parts.Head.{Head}
 use Rattle.tez_plan.specs.declared.parts.Head.TheVariants.{KeepIn, DropIn}
 use Rattle.tez_values.specs.Heads.{HeadInputs, head_rows, beside, has_key, is_among, join_rows}
 use Rattle.tez_values.proofs.SameLemmas.{map-same, is_among-same, join_rows-same}
-use Rattle.tez_plain.specs.Keyed.{Entries, keys_in, records_in, with_key, records_with, AreByKey, is_chosen}
+use Rattle.tez_plain.specs.Keyed.{Entries, keys_in, records_in, with_key, AreByKey, is_chosen}
 use Rattle.tez_plain.proofs.OrderLemmas.{Entry}
 use Rattle.tez_plain.proofs.KeyLemmas.{records_with_is}
 

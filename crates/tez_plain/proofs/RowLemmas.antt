@@ -1,21 +1,21 @@
 -- Rows by key.
 --     rows_step          the row of the first run, and those of the others
 --     rows_by_key_is     rows of entries are the rows by key of their records
-use Rattle.std.proofs.Common.{◌≡◌, ℕ, zero, suc, ◌+◌, ◌<◌, Bool, true, false, not, cond, ◌||◌, List, [], ◌∷◌, ◌++◌, map, length, take, drop, get_or, refl, sym, ap, ap₂, ◌∙◌, subst, arith, bytes_eq, filter, fold, Option, Some, None, slice_get, unwrap_or, ℤ, pos, ◌+ℤ◌, is_none, decimal, append_assoc}
+use Rattle.std.proofs.Common.{◌≡◌, ℕ, zero, suc, ◌+◌, ◌<◌, ◌≤◌, drop-drop, length-drop, true, false, not, cond, ◌||◌, List, [], ◌∷◌, ◌++◌, map, length, take, drop, get_or, refl, sym, ap, ap₂, ◌∙◌, subst, arith, bytes_eq, filter, fold, Some, None, slice_get, unwrap_or, ℤ, pos, ◌+ℤ◌, is_none, decimal, append_assoc}
 use lib.IntN.{+ℤ_assoc, +ℤ_comm}
 use Rattle.std.specs.Fmt.{signed_decimal}
 use Rattle.std.specs.List.{position_or_len}
 use Rattle.std.proofs.lemmas.List.{take_more, map-append}
 use Rattle.tez_lists.proofs.Cases.{cases, both}
 use Rattle.tez_lists.proofs.Flat.{append-nil}
-use Rattle.tez_record.specs.Field.{key, number}
+use Rattle.tez_record.specs.Field.{number}
 use Rattle.tez_record.specs.Bag.{sort, place}
 use Rattle.tez_record.proofs.BagLemmas.{at_most, same_record, same_itself}
 use Rattle.tez_values.specs.Heads.{beside, distinct, has_key, is_among, is_good, rows_by_key, sum_of, sum_rows}
 use Rattle.tez_values.proofs.HeadLemmas.{map-filter, distinct-filter, map-agree}
 use Rattle.tez_values.proofs.SameLemmas.{rows_by_key-same, fold-same}
 use Rattle.tez_plain.specs.Keyed.{Entries, keys_in, records_in, with_key, records_with, AreByKey}
-use Rattle.tez_plain.specs.Runs.{row_of, rows_of}
+use Rattle.tez_plain.specs.Runs.{row_of, rows_of, IsRunPushed}
 use Rattle.tez_plain.specs.declared.runs.Says.{Says}
 use Rattle.tez_plain.specs.declared.runs.Says.TheVariants.{Key, Count, Sum}
 use Rattle.tez_plain.proofs.OrderLemmas.{Entry, Ordered, AreUpFrom, others, run_is, run_rest, run_some, up_from_first, order_drop, none_past, all_others_past}
@@ -108,6 +108,38 @@ module _ (says : Says) (all rows now : List (List ℕ)) (rest : Entries) (first 
 pub rows_end : (says : Says) (all rows : List (List ℕ)) (rest : Entries) → None ≡ slice_get rest 0 → IsWalk says all rows rest → rows ≡ all
 rows_end says all rows [] none walk = sym (append-nil rows) ∙ walk.made
 rows_end says all rows (e ∷ es) none walk = cc
+
+get_drop : (n : ℕ) (es : Entries) → slice_get es n ≡ slice_get (drop n es) 0
+get_drop zero [] = refl
+get_drop zero (e ∷ es) = refl
+get_drop (suc n) [] = refl
+get_drop (suc n) (e ∷ es) = get_drop n es
+
+pub at_place : (es : Entries) (n : ℕ) (first : Entry) → n < length es → first ≡ get_or es n first → Some first ≡ slice_get es n
+at_place [] n first low is = absurd (omega (arith, low))
+at_place (e ∷ es) zero first low is = ap Some is
+at_place (e ∷ es) (suc n) first low is = at_place es n first (omega (arith, low)) is
+
+module _ (says : Says) (all rows now : List (List ℕ)) (es rest : Entries) (start len : ℕ) (first : Entry) (k : List ℕ) (here : Some first ≡ slice_get es start) (own : k ≡ first.0) (is : rest ≡ drop start es)
+    (pushed : IsRunPushed says rows now k rest len) (walk : IsWalk says all rows (drop start es)) where
+  there : Some first ≡ slice_get (drop start es) 0
+  there = here ∙ get_drop start es
+
+  run : len ≡ position_or_len (λ (e : Entry). not (bytes_eq e.0 first.0)) (drop start es)
+  run = pushed.run ∙ (λ i. position_or_len (λ (e : Entry). not (bytes_eq e.0 (own i))) (is i))
+
+  pub run_step : IsWalk says all now (drop (start + len) es)
+  run_step = subst (IsWalk says all now) (drop-drop len start es)
+      (rows_step says all rows now (drop start es) first len there walk run (pushed.row ∙ (λ i. rows ++ row_of says (records_in (take len (is i))) (own i) ∷ [])))
+
+  pub run_few : start ≤ length es → start + len ≤ length es
+  run_few few = let most : len ≤ length (drop start es) = subst (λ (xs : Entries). len ≤ length xs) is pushed.bound in omega (arith, length-drop start es, most, few)
+
+  pub run_more : 0 < len
+  run_more = some_left says all rows now (drop start es) first len there walk run
+
+pub walk_end : (says : Says) (all rows : List (List ℕ)) (es : Entries) (start : ℕ) → None ≡ slice_get es start → IsWalk says all rows (drop start es) → rows ≡ all
+walk_end says all rows es start none walk = rows_end says all rows (drop start es) (none ∙ get_drop start es) walk
 
 -- ---- a sum
 

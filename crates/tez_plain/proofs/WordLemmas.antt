@@ -1,73 +1,69 @@
--- Words of a record, cut byte by byte.
---     word_more       a byte that goes on a word
---     word_done       a byte that parts words
-use Rattle.std.proofs.Common.{◌≡◌, ℕ, zero, suc, ◌+◌, ◌<◌, ◌≤◌, ◌==◌, ◌||◌, Bool, true, false, List, [], ◌∷◌, ◌++◌, map, length, drop, get_or, refl, sym, ap, ◌∙◌, subst, arith, append_assoc, filter, nat_lt}
-use Rattle.std.specs.List.{list_any, slice_split, All}
+-- Words of a record, cut one by one.
+--     first_cut       the first piece, where a byte parts words
+--     no_cut          the only piece, where none does
+--     word_done       a word more
+--     last_word       the last one
+use Rattle.std.proofs.Common.{◌≡◌, ℕ, zero, suc, ◌+◌, ◌<◌, ◌==◌, Bool, true, false, cond, List, [], ◌∷◌, ◌++◌, map, length, take, drop, length-drop, refl, sym, ap, ◌∙◌, subst, arith, append_assoc, filter, nat_lt, Some, None}
+use Rattle.std.specs.List.{list_any, slice_split, position, position_or_len}
 use Rattle.std.proofs.lemmas.Bool.{or_from, or_parts}
-use Rattle.std.proofs.lemmas.List.{drop_more, map-append}
+use Rattle.std.proofs.lemmas.List.{map-append}
 use Rattle.std.proofs.lemmas.List.Elements.{filter-append}
-use Rattle.std.proofs.lemmas.List.Splits.{slice_split_none, slice_split_at}
-use Rattle.std.proofs.lemmas.List.Folds.{list_any-append}
+use Rattle.std.proofs.lemmas.List.Splits.{slice_split_first}
+use Rattle.tez_lists.proofs.Cases.{cases}
 use Rattle.tez_record.specs.Line.{IsRecord}
-use Rattle.tez_plain.specs.Words.{parts_words, counted, counted_words}
-
-none_at : (q : ℕ → Bool) (bytes : List ℕ) → list_any q bytes ≡ false → All (λ b. q b ≡ false) bytes
-none_at q [] h k d low = absurd (omega arith)
-none_at q (b ∷ bytes) h zero d low = (or_parts (q b) (list_any q bytes) h).0
-none_at q (b ∷ bytes) h (suc k) d low = none_at q bytes (or_parts (q b) (list_any q bytes) h).1 k d (omega arith)
+use Rattle.tez_plain.specs.Words.{parts_words, counted, counted_words, IsFirstCut}
+use Rattle.tez_plain.proofs.OrderLemmas.{no_place}
 
 counted-cons : (p : List ℕ) (ps : List (List ℕ)) → counted (p ∷ ps) ≡ counted (p ∷ []) ++ counted ps
 counted-cons p ps = ap (map (λ w. w ++ 9 ∷ 49 ∷ [])) (filter-append (λ w. nat_lt 0 (length w)) (p ∷ []) ps) ∙ map-append (λ w. w ++ 9 ∷ 49 ∷ []) (filter (λ w. nat_lt 0 (length w)) (p ∷ [])) (filter (λ w. nat_lt 0 (length w)) ps)
 
-any-parts : (q : ℕ → Bool) (xs ys : List ℕ) → list_any q (xs ++ ys) ≡ false → (list_any q xs ≡ false) × (list_any q ys ≡ false)
-any-parts q xs ys h = or_parts (list_any q xs) (list_any q ys) (sym (list_any-append q xs ys) ∙ h)
+any_take : (q : ℕ → Bool) (n : ℕ) (bytes : List ℕ) → list_any q bytes ≡ false → list_any q (take n bytes) ≡ false
+any_take q zero bytes h = refl
+any_take q (suc n) [] h = refl
+any_take q (suc n) (b ∷ bytes) h = let parts = or_parts (q b) (list_any q bytes) h in or_from (q b) (list_any q (take n bytes)) parts.0 (any_take q n bytes parts.1)
 
--- what a walk over the bytes of a line keeps: the word so far is clean, and the words to come begin with it
-pub record IsWalk (rows all : List (List ℕ)) (word rest : List ℕ) : Type 0 where
-  pub made : rows ++ counted_words (word ++ rest) ≡ all
-  pub clean : list_any parts_words word ≡ false
-  pub is_record : IsRecord (word ++ rest)
+any_drop : (q : ℕ → Bool) (n : ℕ) (bytes : List ℕ) → list_any q bytes ≡ false → list_any q (drop n bytes) ≡ false
+any_drop q zero bytes h = h
+any_drop q (suc n) [] h = refl
+any_drop q (suc n) (b ∷ bytes) h = any_drop q n bytes (or_parts (q b) (list_any q bytes) h).1
 
-pub word_is_record : (made all : List (List ℕ)) (word rest : List ℕ) → IsWalk made all word rest → IsRecord word
-word_is_record made all word rest w = (any-parts (λ b. b == 10) word rest w.is_record).0
-
-module _ (line : List ℕ) (i b : ℕ) (low : i < length line) (is : b ≡ get_or line i 0) (made all : List (List ℕ)) (word : List ℕ) (walk : IsWalk made all word (drop i line)) where
-  next : drop i line ≡ b ∷ drop (i + 1) line
-  next = drop_more line i 0 low ∙ ap (λ x. x ∷ drop (i + 1) line) (sym is)
-
-  here : word ++ drop i line ≡ word ++ b ∷ drop (i + 1) line
-  here = ap (λ xs. word ++ xs) next
-
-  pub word_more : parts_words b ≡ false → (longer : List ℕ) → longer ≡ word ++ b ∷ [] → IsWalk made all longer (drop (i + 1) line)
-  word_more fails longer e =
-      let same : longer ++ drop (i + 1) line ≡ word ++ drop i line = ap (λ w. w ++ drop (i + 1) line) e ∙ append_assoc word (b ∷ []) (drop (i + 1) line) ∙ sym here in
-      record {
-        made = ap (λ bytes. made ++ counted_words bytes) same ∙ walk.made;
-        clean = ap (list_any parts_words) e ∙ list_any-append parts_words word (b ∷ []) ∙ or_from (list_any parts_words word) (list_any parts_words (b ∷ [])) walk.clean (or_from (parts_words b) false fails refl);
-        is_record = subst IsRecord (sym same) walk.is_record;
-      }
-
-  pub word_done : parts_words b ≡ true → (now : List (List ℕ)) → now ≡ made ++ counted (word ∷ []) → IsWalk now all [] (drop (i + 1) line)
-  word_done parts now e =
-      let cut : counted_words (word ++ drop i line) ≡ counted (word ∷ []) ++ counted_words (drop (i + 1) line) =
-      ap counted_words here ∙ ap counted (slice_split_at parts_words word b (drop (i + 1) line) (none_at parts_words word walk.clean) parts) ∙ counted-cons word (slice_split parts_words (drop (i + 1) line)) in
-      record {
-        made = ap (λ xs. xs ++ counted_words (drop (i + 1) line)) e ∙ append_assoc made (counted (word ∷ [])) (counted_words (drop (i + 1) line)) ∙ ap (λ xs. made ++ xs) (sym cut) ∙ walk.made;
-        clean = refl;
-        is_record = (or_parts (b == 10) (list_any (λ x. x == 10) (drop (i + 1) line)) (any-parts (λ x. x == 10) word (b ∷ drop (i + 1) line) (subst IsRecord here walk.is_record)).1).1;
-      }
-
-pub last_word : (word rest : List ℕ) (made now all : List (List ℕ)) → rest ≡ [] → IsWalk made all word rest → now ≡ made ++ counted (word ∷ []) → now ≡ all
-last_word word rest made now all none walk e =
-    let whole : word ++ rest ≡ word = ap (λ xs. word ++ xs) none ∙ nil word in
-    e ∙ ap (λ xs. made ++ counted xs) (sym (slice_split_none parts_words word (none_at parts_words word walk.clean))) ∙ ap (λ bytes. made ++ counted_words bytes) (sym whole) ∙ walk.made
+place_is : (test : ℕ → Bool) (xs : List ℕ) (n : ℕ) → position test xs ≡ Some n → position_or_len test xs ≡ n
+place_is test xs n h = by (nat_lt (position_or_len test xs) (length xs)) h
   where
-    nil : (xs : List ℕ) → xs ++ [] ≡ xs
-    nil [] = refl
-    nil (x ∷ xs) = ap (λ (ys : List ℕ). x ∷ ys) (nil xs)
+    by : (b : Bool) → cond b (Some (position_or_len test xs)) None ≡ Some n → position_or_len test xs ≡ n
+    by true e = cc
+    by false e = cc
 
-pub dropped : (n : ℕ) (xs : List ℕ) → length xs ≤ n → drop n xs ≡ []
-dropped zero [] low = refl
-dropped zero (x ∷ xs) low = absurd (omega arith)
-dropped (suc n) [] low = refl
-dropped (suc n) (x ∷ xs) low = dropped n xs (omega arith)
+pub first_cut : (bytes after : List ℕ) (end : ℕ) → IsRecord bytes → position parts_words bytes ≡ Some end → end < length bytes → after ≡ drop (end + 1) bytes → IsFirstCut bytes (take end bytes) after
+first_cut bytes after end is_record found low is =
+    let at = place_is parts_words bytes end found in
+    rw is (record {
+      split = slice_split_first parts_words bytes 0 (subst (λ n. n < length bytes) (sym at) low) ∙ ap (λ n. take n bytes ∷ slice_split parts_words (drop (n + 1) bytes)) at;
+      word_is_record = any_take (λ b. b == 10) end bytes is_record;
+      after_is_record = any_drop (λ b. b == 10) (end + 1) bytes is_record;
+      shorter = omega (arith, length-drop (end + 1) bytes, low);
+    })
+
+past_all : (bytes : List ℕ) → length bytes ≡ position_or_len parts_words bytes → slice_split parts_words bytes ≡ bytes ∷ []
+past_all [] h = refl
+past_all (b ∷ bytes) h = cases (parts_words b)
+    (λ t. let none : suc (length bytes) ≡ 0 = h ∙ (rw t refl) in absurd (omega (arith, none)))
+    (λ f.
+    let all : suc (length bytes) ≡ 1 + position_or_len parts_words bytes = h ∙ (rw f refl) in
+    let rest : length bytes ≡ position_or_len parts_words bytes = omega (arith, all) in
+    rw f (rw (past_all bytes rest) refl))
+
+pub no_cut : (bytes : List ℕ) → position parts_words bytes ≡ None → slice_split parts_words bytes ≡ bytes ∷ []
+no_cut bytes h = past_all bytes (no_place parts_words bytes h)
+
+-- ---- words in turn
+
+pub word_done : (made now all : List (List ℕ)) (rest word after : List ℕ) → IsFirstCut rest word after → now ≡ made ++ counted (word ∷ []) → made ++ counted_words rest ≡ all → now ++ counted_words after ≡ all
+word_done made now all rest word after cut e walk =
+    ap (λ xs. xs ++ counted_words after) e
+    ∙ append_assoc made (counted (word ∷ [])) (counted_words after)
+    ∙ ap (λ xs. made ++ xs) (sym (ap counted cut.split ∙ counted-cons word (slice_split parts_words after)))
+    ∙ walk
+
+pub last_word : (made all : List (List ℕ)) (rest : List ℕ) → slice_split parts_words rest ≡ rest ∷ [] → made ++ counted_words rest ≡ all → made ++ counted (rest ∷ []) ≡ all
+last_word made all rest none walk = ap (λ pieces. made ++ counted pieces) (sym none) ∙ walk

@@ -2,9 +2,11 @@
 --     records_in es             the records
 --     records_with k es         those of a key
 --     AreByKey cols rs es       the records rs, each beside its key, in byte order of the keys
+--     one_each f rs               f of each record
+--     copied_keys cols rs         their keys, or nothing where the key is one column
 --     is_chosen keep cols side_cols side r      the key of r is among the keys of the side, or with keep false it is not
-use Rattle.std.specs.Prelude.{◌≡◌, ℕ, Bool, true, false, not, List, map}
-use Rattle.std.specs.List.{filter, AllByRecursion}
+use Rattle.std.specs.Prelude.{◌≡◌, ◌==◌, ◌∷◌, [], ℕ, Bool, true, false, not, List, map, length, if◌then◌else◌}
+use Rattle.std.specs.List.{filter, flat_map, AllByRecursion}
 use Rattle.std.specs.List.Sorted.{IsSortedByKey}
 use Rattle.std.specs.Str.{bytes_eq}
 use denote.Ref.{Bor}
@@ -27,6 +29,12 @@ with_key k es = filter (λ e. bytes_eq k e.0) es
 
 abbrev pub records_with : List ℕ → Entries → List (List ℕ)
 records_with k es = records_in (with_key k es)
+
+abbrev pub one_each : (List ℕ → List ℕ) → List (List ℕ) → List (List ℕ)
+one_each f rs = flat_map (λ r. f r ∷ []) rs
+
+abbrev pub copied_keys : List ℕ → List (List ℕ) → List (List ℕ)
+copied_keys cols rs = if length cols == 1 then [] else one_each (key cols) rs
 
 -- in byte order of the keys
 abbrev pub AreInOrder : Entries → Type 0

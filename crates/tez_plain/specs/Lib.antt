@@ -3,3 +3,4 @@ pub mod Answer
 pub mod Keyed
 pub mod Runs
 pub mod Words
+pub mod Numbers

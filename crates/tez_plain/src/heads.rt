@@ -6,6 +6,7 @@ ghost use Rattle.tez_record.specs.Field.{number};
 ghost use Rattle.tez_values.specs.Heads.{head_rows, is_bad_for_head, sum_rows};
 ghost use Rattle.tez_values.specs.Program.{first_or};
 ghost use Rattle.tez_plain.specs.Answer.{IsBadAnswer};
+ghost use Rattle.tez_plain.specs.Numbers.{head_reads_number};
 
 use crate::fault::PlainFault;
 use crate::least::least;
@@ -32,7 +33,19 @@ pub fn evaluate_head(alloc: Global, head: &Head, inputs: &HeadReads) -> Result<R
 fn bad_records(alloc: Global, head: &Head, primary: &Records) -> Result<Records, AllocError>
     ensures { IfOk result (λ bad. bad ≡ filter (is_bad_for_head head.now) primary.now) }
 {
-    primary.kept(alloc, |line| is_bad(head, line))
+    if reads_number(head) {
+        return primary.kept(alloc, |line| is_bad(head, line));
+    }
+    Ok(Records::new(alloc))
+}
+
+fn reads_number(head: &Head) -> bool
+    ensures { result ≡ head_reads_number head.now }
+{
+    match head {
+        Head::Sum { .. } => true,
+        _ => false,
+    }
 }
 
 /// Whether the head reads a field that is no number.

@@ -1,9 +1,10 @@
-//! Heads and steps as plain programs over whole bags: slow and simple, straight from their
-//! definitions. The meaning of a job is worked out by them.
+//! Heads and steps as plain programs over whole bags: records are sorted by their keys, and rows are
+//! made along the runs. The meaning of a job is worked out by them.
 #![tactic(auto)]
 
 mod fault;
 mod heads;
+mod key;
 mod keyed;
 mod least;
 mod pairs;

@@ -7,6 +7,8 @@ ghost use Rattle.tez_plan.specs.declared.parts.Step.TheVariants.{Tokenise, Proje
 ghost use Rattle.tez_values.specs.Steps.{holds, reads_number, is_bad_for, step_rows, run, bad_in_steps};
 ghost use Rattle.tez_values.specs.Program.{first_or, least_of};
 ghost use Rattle.tez_plain.specs.Answer.{IsBadAnswer};
+ghost use Rattle.tez_plain.specs.Keyed.{one_each};
+ghost use Rattle.tez_plain.specs.Numbers.{step_reads_number};
 
 use crate::fault::PlainFault;
 use crate::least::least;
@@ -47,7 +49,19 @@ pub fn evaluate_step(alloc: Global, step: &Step, rows: &Records) -> Result<Recor
 fn bad_records(alloc: Global, step: &Step, rows: &Records) -> Result<Records, AllocError>
     ensures { IfOk result (λ bad. bad ≡ filter (is_bad_for step.now) rows.now) }
 {
-    rows.kept(alloc, |line| is_bad(step, line))
+    if step_reads_number(step) {
+        return rows.kept(alloc, |line| is_bad(step, line));
+    }
+    Ok(Records::new(alloc))
+}
+
+fn step_reads_number(step: &Step) -> bool
+    ensures { result ≡ step_reads_number step.now }
+{
+    match step {
+        Step::Filter { test, .. } => reads_number(test),
+        Step::Tokenise | Step::Project { .. } => false,
+    }
 }
 
 /// Whether the step reads a field that is no number.
@@ -111,13 +125,14 @@ fn tokenise(alloc: Global, rows: &Records) -> Result<Records, AllocError>
 {
     let mut made = Records::new(alloc);
     for line in rows.iter() {
-        push_words(alloc, &mut made, line)?;
+        push_words(&mut made, line)?;
     }
     Ok(made)
 }
 
-fn project(alloc: Global, rows: &Records, cols: &[u16]) -> Result<Records, AllocError>
-    ensures { IfOk result (λ made. made ≡ flat_map (λ r. key cols.now r ∷ []) rows.now) }
+/// The key of each row.
+pub fn project(alloc: Global, rows: &Records, cols: &[u16]) -> Result<Records, AllocError>
+    ensures { IfOk result (λ made. made ≡ one_each (key cols.now) rows.now) }
 {
     let mut made = Records::new(alloc);
     for line in rows.iter() {

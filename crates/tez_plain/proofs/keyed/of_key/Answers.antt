@@ -1,8 +1,7 @@
-use Rattle.std.proofs.Common.{◌≡◌, ◌∙◌, ap, take, drop, length, ◌-◌, rules, is_lt}
+use Rattle.std.proofs.Common.{◌∙◌, ap, take, drop, length, ◌-◌, rules, is_lt}
 use Rattle.std.proofs.lemmas.List.{take_rest}
 use Rattle.std.proofs.lemmas.List.Sorted.{IsPartitionPoint-from_clause}
 use Rattle.tez_record.specs.Bag.{compare}
-use Rattle.tez_plain.specs.Keyed.{Entries}
 use Rattle.tez_plain.proofs.OrderLemmas.{found_run, partitioned}
 use Rattle.tez_plain.proofs.keyed.of_key.Goals as goal
 

@@ -1,4 +1,4 @@
-use Rattle.std.proofs.Common.{◌≡◌, ◌∙◌, ◌==◌, ◌++◌, filter, ap, ap₂, sym, subst, map, not, length}
+use Rattle.std.proofs.Common.{◌≡◌, ◌∙◌, ◌++◌, filter, ap, ap₂, map, not}
 use Rattle.tez_record.specs.Line.{lines}
 use Rattle.tez_record.specs.Field.{key}
 use Rattle.tez_record.proofs.BlockLemmas.{first_is_record}

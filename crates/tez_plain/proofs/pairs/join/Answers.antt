@@ -14,14 +14,14 @@ push_pairs-requires-clause-left c = first_is_record c.loop-line.line-iterator.re
 
 pub push_pairs-requires-clause-right : goal.push_pairs-requires-clause-right
 push_pairs-requires-clause-right c =
-    let run : c.of_key.result.now ≡ with_key c.in_ok-own.own.items c.in_ok-entries.entries.items = c.of_key.ensures ∙ ap₂ with_key c.as_slice-in-loop-line.ensures.value c.as_slice.ensures.value in
-    subst (λ (es : Entries). AllByRecursion IsRecord (records_in es)) (sym run) (all_with IsRecord c.in_ok-own.own.items c.in_ok-entries.entries.items c.in_ok-entries.ensures.lines)
+    let run : c.of_key.result.now ≡ with_key c.put_key.new.buffer.items c.in_ok-entries.entries.items = c.of_key.ensures ∙ ap₂ with_key c.as_slice-in-loop-line.ensures.value c.as_slice.ensures.value in
+    subst (λ (es : Entries). AllByRecursion IsRecord (records_in es)) (sym run) (all_with IsRecord c.put_key.new.buffer.items c.in_ok-entries.entries.items c.in_ok-entries.ensures.lines)
 
 pub loop-line-preserved : goal.loop-line-preserved
 loop-line-preserved c =
-    let run : c.of_key.result.now ≡ with_key c.in_ok-own.own.items c.in_ok-entries.entries.items = c.of_key.ensures ∙ ap₂ with_key c.as_slice-in-loop-line.ensures.value c.as_slice.ensures.value in
+    let run : c.of_key.result.now ≡ with_key c.put_key.new.buffer.items c.in_ok-entries.entries.items = c.of_key.ensures ∙ ap₂ with_key c.as_slice-in-loop-line.ensures.value c.as_slice.ensures.value in
     paired c.args.cols.now c.args.right_cols.now c.args.right.now c.in_ok-entries.entries.items c.in_ok-entries.ensures _ c.loop-line.rows c.push_pairs.new.rows (lines c.loop-line.line-iterator.rest.now) (lines c.next.new.self.rest.now)
-    c.in-Some.line.now c.in_ok-own.own.items c.of_key.result.now c.in-Some.ensures.steps c.in_ok-own.ensures run c.in_ok-push_pairs.ensures c.loop-line.invariant
+    c.in-Some.line.now c.put_key.new.buffer.items c.of_key.result.now c.in-Some.ensures.steps c.in_ok-put_key.ensures run c.in_ok-push_pairs.ensures c.loop-line.invariant
 
 pub returns : goal.returns
 returns c =

@@ -1,4 +1,4 @@
-use Rattle.std.proofs.Common.{◌∙◌, ◌≡◌, ap, subst, None}
+use Rattle.std.proofs.Common.{◌∙◌, ◌≡◌, subst, None}
 use Rattle.std.specs.Result.{IfErr, OnOk}
 use Rattle.std.proofs.lemmas.Result.{IfOk-weaker}
 use Rattle.tez_record.specs.Bag.{sort}
