@@ -20,7 +20,8 @@ use Rattle.tez_history.specs.Steps.{enabled, entries_of, is_running}
 use Rattle.tez_laws.proofs.StepLaw.{both}
 use Rattle.tez_router.specs.State.{LinkState, Routing, OneToOne, Broadcast, ScatterGather}
 use Rattle.tez_router_view.specs.View.{router_view, link_view, routing_for}
-use Rattle.tez_router_view.specs.Events.{after_set_edges, is_at, links_at}
+use Rattle.tez_router.specs.Configure.{after_set_edges, is_at, rerouted, reroute, links_for}
+use Rattle.tez_router_view.specs.Events.{links_at}
 use Rattle.tez_router_view.proofs.Lists.{filter-map, map-map, map-same}
 use Rattle.tez_router_view.proofs.Ordering.{vertex_below}
 use Rattle.tez_router_view.proofs.Keeping.{event_fits}
@@ -31,7 +32,7 @@ use Rattle.tez_schedule.specs.Table.{configures_at}
 use Rattle.tez_schedule_view.specs.View.{schedule_view}
 use Rattle.tez_schedule_view.proofs.Seeing.{configures_same}
 use Rattle.tez_schedule_view.proofs.ByEvent.{configure_view}
-use Rattle.tez_control.specs.Settled.{rerouted, reroute, links_for, with_config}
+use Rattle.tez_control.specs.Settled.{with_config}
 use Rattle.tez_control.specs.View.{master_view}
 use Rattle.tez_control.specs.Laws.{Goes}
 use Rattle.tez_control.proofs.Simple.{Settles, settles}

@@ -14,3 +14,5 @@ pub mod Reasons
 pub mod ShelfReadings
 pub mod TaskReadings
 pub mod Takes
+pub mod SteadyLaw
+pub mod Pieces

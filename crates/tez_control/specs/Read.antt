@@ -7,12 +7,13 @@
 --     lie_in m t              the node slot where the pieces of the task's winner lie
 --     is_on_shelf m w         the pieces of this winner are on the shelf
 --     source_in m a e i       the winner behind an input of an attempt
+--     piece_in m a e i        that winner, and which of its outputs the input is
 --     queued_in m             the queued attempts, in the order of tasks
 --     are_done m              every task of every vertex has a winner
 --     first_sink m done v     v is the first vertex with a sink that is not in this list
 use Rattle.std.specs.Prelude.{ℕ, Bool, true, false, not, ◌&&◌, ◌==◌, nat_lt, if◌then◌else◌, List, [], ◌∷◌, slice_get, position, Option, Some, None, is_some, unwrap_or, option_and_then}
 use Rattle.std.specs.List.{filter, filter_map, flat_map, list_any, list_all}
-use Rattle.std.specs.Option.{option_map_or}
+use Rattle.std.specs.Option.{option_map, option_map_or}
 use Rattle.tez_ids.specs.declared.TaskId.{TaskId}
 use Rattle.tez_ids.specs.declared.AttemptId.{AttemptId}
 use Rattle.tez_plan.specs.Dag.{target_of}
@@ -23,7 +24,7 @@ use Rattle.tez_task.specs.TaskState.{TaskState}
 use Rattle.tez_task.specs.Table.{state_of, next_of, live_of}
 use Rattle.tez_vertex.specs.Table.{task_of}
 use Rattle.tez_pool.specs.Table.{is_free as is_place_free}
-use Rattle.tez_router.specs.Table.{source_in as router_source}
+use Rattle.tez_router.specs.Table.{source_in as router_source, output_in}
 use Rattle.tez_schedule.specs.Table.{are_done as schedule_done}
 use Rattle.tez_history.specs.Shape.{sinks, has_edge_out}
 use Rattle.tez_history.specs.Steps.{is_first_without}
@@ -113,6 +114,9 @@ is_on_shelf m w = has_edge_out m.plan w.task.vertex.0 && is_some (lie_in m w.tas
 -- over an edge that leads to the attempt's vertex
 abbrev pub source_in : MasterState → AttemptId → ℕ → ℕ → Option AttemptId
 source_in m a e i = if target_of m.plan e == a.task.vertex.0 then router_source m.router a e i else None
+
+abbrev pub piece_in : MasterState → AttemptId → ℕ → ℕ → Option (AttemptId × ℕ)
+piece_in m a e i = option_map (λ w. (w, output_in m.router a e i)) (source_in m a e i)
 
 -- the winners of all tasks, in the order of tasks
 abbrev pub winners_in : MasterState → List AttemptId

@@ -3,7 +3,7 @@
 --     after_done m a made     after a report of an attempt that processes, with the bytes of its pieces by edge
 --     withdrawn m w           a winner is withdrawn
 use Rattle.std.specs.Prelude.{ℕ, ◌/◌, true, false, ◌==◌, if◌then◌else◌, List, map, slice_set, Option, Some, None}
-use Rattle.std.specs.List.{filter, fold}
+use Rattle.std.specs.List.{fold}
 use Rattle.std.specs.Option.{option_map, option_map_or}
 use Rattle.tez_ids.specs.declared.TaskId.{TaskId}
 use Rattle.tez_ids.specs.declared.AttemptId.{AttemptId}
@@ -17,9 +17,8 @@ use Rattle.tez_task.specs.declared.TaskEvent.TheVariants as task_event
 use Rattle.tez_vertex.specs.Table.{after_configure as configured_vertex}
 use Rattle.tez_vertex_view.specs.View.{change, take_in}
 use Rattle.tez_pool.specs.Table.{place_of, held_on, after_place, after_sent, after_release, after_loss}
-use Rattle.tez_router.specs.State.{RouterState, LinkState, Routing, OneToOne, Broadcast, ScatterGather}
 use Rattle.tez_router.specs.Table.{after_admit, after_dismiss, after_announce, after_withdraw, after_fetched}
-use Rattle.tez_router_view.specs.Events.{after_set_edges, is_at}
+use Rattle.tez_router.specs.Configure.{after_set_edges, links_for}
 use Rattle.tez_schedule.specs.Table.{configures_at, after_configure, after_schedule, after_win, after_withdraw as unscheduled_win}
 use Rattle.tez_control.specs.State.{MasterState}
 use Rattle.tez_control.specs.Read.{is_on_shelf, source_in, lost_in}
@@ -31,18 +30,6 @@ abbrev pub with_lie : MasterState → TaskId → Option ℕ → MasterState
 with_lie m t slot = record m { lies = set_in m.lies t.vertex.0 t.index slot }
 
 -- ---- a vertex is configured
-
--- an edge at the vertex gets a manager of its tasks
-abbrev pub rerouted : ℕ → Config → LinkState → Routing → Routing
-rerouted v s l (OneToOne tasks) = OneToOne (if l.source == v then s.tasks else tasks)
-rerouted v s l (Broadcast sources consumers) = Broadcast (if l.source == v then s.tasks else sources) (if l.target == v then s.tasks else consumers)
-rerouted v s l (ScatterGather sources parts base) = ScatterGather (if l.source == v then s.tasks else sources) parts (if l.target == v then s.base else base)
-
-abbrev pub reroute : ℕ → Config → LinkState → LinkState
-reroute v s l = record l { routing = rerouted v s l l.routing }
-
-abbrev pub links_for : RouterState → ℕ → Config → List LinkState
-links_for r v s = map (reroute v s) (filter (is_at v) r.links)
 
 abbrev pub with_config : MasterState → ℕ → Config → MasterState
 with_config m v s =

@@ -3,16 +3,23 @@
 #![tactic(auto)]
 
 mod changes;
+mod choosing;
+mod configure;
 mod enabled;
 mod flags;
 mod fresh;
 mod lies;
+mod lost;
+mod new_tasks;
 mod parts;
+mod prepared;
 mod reads;
 mod shallower;
 mod sinks;
 mod tasks;
+mod telling;
 #[cfg(test)]
 mod tests;
 
 pub use parts::Core;
+pub use prepared::NewConfig;

@@ -34,8 +34,8 @@ fn take_at(x: &mut VertexMachine, index: u32, e: TaskEvent)
     }
 }
 
-// The vertex of a task, where it has the task.
-fn vertex_of(vertices: &[VertexMachine], t: TaskId) -> Option<&VertexMachine>
+/// The vertex of a task, where it has the task.
+pub(crate) fn vertex_of(vertices: &[VertexMachine], t: TaskId) -> Option<&VertexMachine>
     ensures there { IfSome result (λ x. (slice_get vertices.now t.vertex.0 ≡ Some x.now) × (t.index < length x.now.tasks)) }
     ensures none { IfNone result (task_at vertices.now t ≡ None) }
 {

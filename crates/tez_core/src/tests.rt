@@ -63,17 +63,18 @@ fn two_vertices(alloc: Global) -> Result<Option<Plan>, AllocError> {
 
 // A vertex gets one task, as the plan says.
 fn configure(rt: &impl Abort, alloc: Global, core: &mut Core, v: u16) {
-    let config = Config { tasks: 1, base: 1 };
-    assert!(rt; core.may_configure(VertexId(v)));
-    assert!(rt; (v as usize) < core.vertices.len());
-    assert!(rt; core.vertices[v as usize].configure(alloc, 1).is_ok());
-    assert!(rt; core.schedule.can_configure(VertexId(v), config));
-    core.schedule.configure(VertexId(v), config);
+    let v = VertexId(v);
+    assert!(rt; core.may_configure(v));
+    assert!(rt; core.configuration(v) == Some(Config { tasks: 1, base: 1 }));
+    assert!(rt; core.can_configure(v));
+    assert!(rt; core.configure(alloc, v).is_ok());
+    assert!(rt; core.config_of(v) == Some(Config { tasks: 1, base: 1 }));
 }
 
 fn fetch(rt: &impl Abort, core: &mut Core, a: AttemptId) {
     assert!(rt; core.may_fetch(a, EdgeId(0), 0));
     if let Some(w) = core.source_of(a, EdgeId(0), 0) {
+        assert!(rt; core.piece_of(a, EdgeId(0), 0) == Some((w, 0)));
         assert!(rt; core.has_room(w.task));
         core.fetch(a, EdgeId(0), 0);
     }
@@ -90,6 +91,17 @@ fn place(rt: &impl Abort, alloc: Global, core: &mut Core, a: AttemptId) {
     assert!(rt; core.has_room(a.task));
     if core.place_of(a).is_none() {
         assert!(rt; core.place(alloc, a, 0).is_ok());
+    }
+    assert!(rt; core.waits(a));
+}
+
+fn place_prepared(rt: &impl Abort, alloc: Global, core: &mut Core, a: AttemptId) {
+    assert!(rt; core.may_place(a, 0));
+    assert!(rt; core.has_room(a.task));
+    if core.place_of(a).is_none() {
+        if let Ok(x) = core.prepare_place(alloc, a) {
+            core.place_prepared(a, 0, x);
+        }
     }
     assert!(rt; core.waits(a));
 }
@@ -151,7 +163,7 @@ fn output_that_is_lost_is_made_again(rt: HostRuntime) {
     core.preempt(second);
     place(&rt, alloc, &mut core, again);
     work(&rt, &mut core, again);
-    place(&rt, alloc, &mut core, last);
+    place_prepared(&rt, alloc, &mut core, last);
     assert!(rt; !core.may_send(last));
     fetch(&rt, &mut core, last);
     work(&rt, &mut core, last);

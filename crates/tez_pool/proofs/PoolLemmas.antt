@@ -1,5 +1,5 @@
 -- What the calls of a pool make of its places.
-use Rattle.std.specs.Prelude.{◌≡◌, ℕ, zero, suc, ◌+◌, ◌*◌, ◌/◌, ◌%◌, ◌<◌, ◌≤◌, ◌^◌, ◌⊎◌, ◌≢◌, ◌&&◌, ◌==◌, nat_lt, Bool, true, false, cond, if◌then◌else◌, List, [], ◌∷◌, ◌++◌, length, map, take, drop, replicate, count_by, slice_get, Option, Some, None, option_and_then, option_to_list, IsSome, Result, Ok, Err, OnErr, refl}
+use Rattle.std.specs.Prelude.{◌≡◌, ℕ, zero, suc, ◌+◌, ◌-◌, ◌*◌, ◌/◌, ◌%◌, ◌<◌, ◌≤◌, ◌^◌, ◌⊎◌, ◌≢◌, ◌&&◌, ◌==◌, nat_lt, Bool, true, false, cond, if◌then◌else◌, List, [], ◌∷◌, ◌++◌, length, map, take, drop, replicate, count_by, slice_get, Option, Some, None, option_and_then, option_to_list, IsSome, Result, Ok, Err, OnErr, refl}
 use Rattle.std.specs.HashMap.{HashMap, get}
 use Rattle.std.specs.List.{list_any, filter_map, cons_option}
 use Rattle.std.specs.Option.{option_map}
@@ -9,6 +9,8 @@ use Rattle.std.proofs.lemmas.Bool.Decides.{nat_tests}
 use Rattle.std.proofs.lemmas.List.{take_more, drop_more, take_all, drop_all, append-nil, get_or_at, length-set, length-replicate}
 use Rattle.std.proofs.lemmas.List.Sums.{count_by_more_yes, count_by_more_no}
 use Rattle.std.proofs.lemmas.Nat.{div-mul-add, mod-mul-add, div-add-mod'}
+use Rattle.std.proofs.Math.Nat.{mul-le-mul_right}
+use Rattle.std.proofs.Math.Seq.{take-nil}
 use Rattle.std.proofs.lemmas.Option.{same_Some}
 use Rattle.tez_lists.specs.Numbers.{numbers_from}
 use Rattle.tez_lists.specs.Tables.{each_from}
@@ -17,7 +19,7 @@ use Rattle.tez_ids.specs.declared.AttemptId.{AttemptId}
 use Rattle.tez_pool.specs.declared.place.Held.{Held}
 use Rattle.tez_pool.specs.declared.place.Place.{Place}
 use Rattle.tez_pool.specs.State.{PoolState}
-use Rattle.tez_pool.specs.Table.{free, holds, is_by, is_taken, who, place_held, send_held, send_place, after_sent, freed_place, numbers_for, release_place, after_release, clear_place, number_in_order, cleared, lose_place, lose_life}
+use Rattle.tez_pool.specs.Table.{free, holds, is_by, is_taken, who, place_held, held_on, send_held, send_place, after_sent, freed_place, numbers_for, release_place, after_release, clear_place, number_in_order, cleared, lose_place, lose_life}
 use Rattle.tez_pool.specs.Index.{equal, capacity, held_at, IsIndex}
 use Rattle.tez_pool.specs.Kept.{IsKept}
 use Rattle.tez_pool.proofs.PlaceLemmas.{got, inside, get_set_same, get_set_other, get_map, length_numbers, map_at, map_nowhere, any_at, any_nowhere, held_from, position_found, position_missed}
@@ -411,3 +413,11 @@ next_life_from n (suc i) (y ∷ ys) x d b e =
 
 pub next_life : (i : ℕ) (xs : List ℕ) (x d : ℕ) → i < length xs → x ≡ get_or xs i d → set xs i (x + 1) ≡ each_from 0 (lose_life i) xs
 next_life i xs x d b e = ap (set xs i) (omega arith) ∙ next_life_from 0 i xs x d b e ∙ ap (λ n. each_from 0 (lose_life n) xs) (zero-add i)
+
+-- ---- a slot that is not there has no places
+
+pub nobody_on : (s : PoolState) (slot : ℕ) → length s.places ≡ length s.lives * s.per_node → length s.lives ≤ slot → held_on s slot ≡ []
+nobody_on s slot sized outside =
+    let first = slot * s.per_node in
+    let far : length s.places ≤ first = subst (λ n. n ≤ first) (sym sized) (mul-le-mul_right s.per_node outside) in
+    ap (λ places. filter_map who (take (first + s.per_node - first) places)) (drop_all first s.places far) ∙ ap (filter_map who) (take-nil (first + s.per_node - first))

@@ -121,6 +121,17 @@ impl Pool {
         }
     }
 
+    /// The life of the node of a slot. None where there is no such slot, and then it has no places.
+    pub fn life_of(&self, slot: u16) -> Option<u64>
+        ensures life { result ≡ slice_get self.now.lives slot }
+        ensures nobody { IfNone result (held_on self.now slot ≡ []) }
+    {
+        match self.lives.get(slot as usize) {
+            Some(life) => Some(*life),
+            None => None,
+        }
+    }
+
     /// Gives a place to an attempt, which waits there until its order goes out. Answers the
     /// container, and nothing where the place is taken or not there. Takes logarithmic time in the
     /// number of places, averaged over as many calls as there are places.

@@ -6,3 +6,5 @@ mod Ranges
 mod Spans
 mod Firsts
 mod Readers
+mod Configuring
+mod MayConfigure

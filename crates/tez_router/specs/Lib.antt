@@ -1,5 +1,7 @@
 pub mod State
 pub mod Table
+pub mod Configure
+pub mod Admission
 pub mod Planned
 pub mod Edges
 pub mod Between

@@ -2,6 +2,8 @@
 --     source_task l c i        the task whose output is input i of consumer task c
 --     winner_in s t            the winner of a task
 --     source_in s a e i        the winner behind an input
+--     output_of l c i          which of its outputs the source task of an input makes it
+--     piece_in s a e i         the winner behind an input, and which of its outputs it is
 --     after_announce, after_withdraw, after_admit, after_dismiss, after_fetched, after_set_edge
 --     fetched_in s a e i       an admitted attempt has fetched an input
 --     missing_in s a           how many inputs of an admitted attempt were not fetched
@@ -39,6 +41,16 @@ winner_in s t = winner_at s.winners t.vertex.0 t.index
 
 abbrev pub source_in : RouterState → AttemptId → ℕ → ℕ → Option AttemptId
 source_in s a e i = option_and_then (winner_in s) (option_and_then (λ l. source_task l a.task.index i) (slice_get s.links e))
+
+-- 0 where there is no such input
+abbrev pub output_of : LinkState → ℕ → ℕ → ℕ
+output_of l c i = if nat_lt i (inputs_in l.routing c) then ((table_for l.routing).leads c i).1 else 0
+
+abbrev pub output_in : RouterState → AttemptId → ℕ → ℕ → ℕ
+output_in s a e i = option_map_or (λ l. output_of l a.task.index i) (slice_get s.links e) 0
+
+abbrev pub piece_in : RouterState → AttemptId → ℕ → ℕ → Option (AttemptId × ℕ)
+piece_in s a e i = option_map (λ w. (w, output_in s a e i)) (source_in s a e i)
 
 abbrev pub with_winner : RouterState → TaskId → Option AttemptId → RouterState
 with_winner s t w = record s { winners = set_in s.winners t.vertex.0 t.index w }

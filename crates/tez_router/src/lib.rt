@@ -5,6 +5,7 @@
 //! finishes. For each attempt that waits it keeps, as runs of numbers, which inputs it has fetched.
 #![tactic(auto)]
 
+mod admission;
 mod admitted;
 mod fetches;
 mod link;
@@ -12,11 +13,13 @@ mod notice;
 mod notices;
 mod order;
 mod planned;
+mod reroute;
 mod router;
 #[cfg(test)]
 mod tests;
 mod winners;
 
+pub use admission::Admission;
 pub use fetches::Fetch;
 pub use notice::Notice;
 pub use router::Router;

@@ -1,12 +1,15 @@
-ghost use Rattle.std.specs.Prelude.{◌≡◌, ◌==◌, ◌&&◌};
+ghost use Rattle.std.specs.Prelude.{◌≡◌, ◌==◌, ◌&&◌, ◌≤◌};
 ghost use Rattle.tez_router.specs.State.{routing_of};
 ghost use Rattle.tez_router.specs.Span.{IsSpan, IsSpanOf};
 ghost use Rattle.tez_router.specs.Between.{is_one_to_one};
-ghost use Rattle.tez_router.specs.Table.{inputs_in, source_task};
+ghost use Rattle.tez_router.specs.Table.{inputs_in, source_task, output_of};
+ghost use Rattle.tez_router.specs.Configure.{is_at, rerouted, FitsParts, fits_parts};
 
+use crate::reroute::{reroute_broadcast, reroute_pairs, reroute_shuffle};
 use std::marker::Model;
 use tez_edges::{EdgeManager, Manager};
 use tez_ids::{EdgeId, TaskId, VertexId};
+use tez_vman::Config;
 
 /// An edge with its manager, of which contracts see the numbers.
 #[derive(Drop)]
@@ -80,6 +83,55 @@ impl Link {
             vertex: self.from,
             index: source,
         })
+    }
+
+    /// Which of its outputs the source task of an input makes it. 0 where there is no such input.
+    pub fn output_of(&self, consumer: u32, input: u32) -> u32
+        ensures { result ≡ output_of self.now consumer input }
+    {
+        if input >= inputs_of(self.manager, consumer) {
+            return 0;
+        }
+        let (_, output) = self.manager.route_error(consumer, input);
+        output
+    }
+
+    /// Whether the edge leads from or to the vertex.
+    pub fn is_at(&self, v: VertexId) -> bool
+        ensures { result ≡ is_at v.0 self.now }
+    {
+        self.from == v || self.to == v
+    }
+
+    /// Whether there are partitions for such a base, and the inputs for such tasks can be numbered.
+    pub fn fits(&self, v: VertexId, config: Config) -> bool
+        ensures { result ≡ fits_parts v.0 config self.now }
+    {
+        match self.manager {
+            Manager::OneToOne(_) => true,
+            Manager::Broadcast(_) => true,
+            Manager::ScatterGather(m) => {
+                (self.from != v || u64::from(config.tasks) * u64::from(m.parts) < 1 << 32)
+                    && (self.to != v || config.base <= m.parts)
+            }
+        }
+    }
+
+    /// The manager that the edge gets when the vertex gets these tasks.
+    pub fn rerouted(&self, v: VertexId, config: Config) -> Manager
+        requires some { 1 ≤ config.tasks }
+        requires based { 1 ≤ config.base }
+        requires parts { FitsParts v.0 config self.now }
+        ensures { routing_of result ≡ rerouted v.0 config self.now self.now.routing }
+    {
+        let (from, to) = (self.from == v, self.to == v);
+        match self.manager {
+            Manager::OneToOne(m) => Manager::OneToOne(reroute_pairs(m, config, from)),
+            Manager::Broadcast(m) => Manager::Broadcast(reroute_broadcast(m, config, from, to)),
+            Manager::ScatterGather(m) => Manager::ScatterGather(reroute_shuffle(
+                m, config, from, to,
+            )),
+        }
     }
 
     /// The inputs of the consumer that lead back to the task are among those from the first number

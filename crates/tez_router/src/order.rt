@@ -1,5 +1,5 @@
 // Admitted attempts in the order of their tasks.
-ghost use Rattle.std.specs.Prelude.{◌≡◌, ◌≤◌, true, false, List, length, nat_le, IfSome, IfNone, OnOk, OnErr};
+ghost use Rattle.std.specs.Prelude.{◌≡◌, ◌≤◌, ◌<◌, true, false, List, [], length, nat_le, IfSome, IfNone, OnOk, OnErr, vec_capacity};
 ghost use Rattle.std.specs.List.{AllByRecursion};
 ghost use Rattle.tez_router.specs.State.{LinkState};
 ghost use Rattle.tez_router.specs.Edges.{AreInto};
@@ -73,6 +73,7 @@ pub fn put(admitted: &mut Vec<Admitted>, x: Admitted) -> Result<(), AllocError>
     requires { AreInOrder admitted.old.items }
     ensures put { OnOk result (admitted.new.items ≡ admit_in x admitted.old.items) }
     ensures refused { OnErr result (admitted.new.items ≡ admitted.old.items) }
+    ensures full { OnErr result (vec_capacity admitted.old ≤ length admitted.old.items) }
     ensures order { AreInOrder admitted.new.items }
     ensures into { (links : List LinkState) → AreInto links x → AllByRecursion (AreInto links) admitted.old.items → AllByRecursion (AreInto links) admitted.new.items }
 {
@@ -84,4 +85,33 @@ pub fn put(admitted: &mut Vec<Admitted>, x: Admitted) -> Result<(), AllocError>
     }
     admitted.insert(at, x)?;
     Ok(())
+}
+
+// The attempts in other room. Takes no memory.
+fn moved(admitted: &mut Vec<Admitted>, mut room: Vec<Admitted>) -> Vec<Admitted>
+    requires empty { room.items ≡ [] }
+    requires room { length admitted.old.items < vec_capacity room }
+    ensures items { result.items ≡ admitted.old.items }
+    ensures room { length result.items < vec_capacity result }
+{
+    if room.append(admitted).is_err() {
+        prove!(false);
+    }
+    room
+}
+
+/// Does so by room that was taken before. Takes no memory, and time in the admitted attempts.
+pub fn put_within(admitted: &mut Vec<Admitted>, room: Vec<Admitted>, x: Admitted)
+    requires order { AreInOrder admitted.old.items }
+    requires empty { room.items ≡ [] }
+    requires room { length admitted.old.items < vec_capacity room }
+    ensures put { admitted.new.items ≡ admit_in x admitted.old.items }
+    ensures order { AreInOrder admitted.new.items }
+    ensures into { (links : List LinkState) → AreInto links x → AllByRecursion (AreInto links) admitted.old.items → AllByRecursion (AreInto links) admitted.new.items }
+{
+    let mut all = moved(admitted, room);
+    if put(&mut all, x).is_err() {
+        prove!(false);
+    }
+    *admitted = all;
 }

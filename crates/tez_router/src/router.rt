@@ -1,23 +1,27 @@
-ghost use Rattle.std.specs.Prelude.{◌≡◌, None, Some, map, slice_get, IfOk, OnOk, OnErr, IsTrue, length};
+ghost use Rattle.std.specs.Prelude.{◌≡◌, ◌≤◌, ◌<◌, suc, true, None, Some, map, slice_get, IfOk, OnOk, OnErr, IsTrue, length};
 ghost use Rattle.std.specs.List.{list_all};
 ghost use Rattle.tez_lists.specs.Tables.{set_in};
 ghost use Rattle.tez_router.specs.State.{routing_of};
 ghost use Rattle.tez_router.specs.Planned.{planned_router};
-ghost use Rattle.tez_router.specs.Table.{source_in, after_announce, after_withdraw, after_admit, after_dismiss, after_fetched, fetched_in, missing_in, with_routing, restart_by, after_set_edge, can_restart_by, can_set_edge, notices_in, without, fetches_in, first_complete};
+ghost use Rattle.tez_router.specs.Configure.{after_set_edges, links_for, links_from, CanConfigure, CanConfigureFrom, has_numbers, may_reroute, may_configure};
+ghost use Rattle.tez_router.specs.Admission.{FitsRouter};
+ghost use Rattle.tez_router.specs.Table.{source_in, output_in, piece_in, after_announce, after_withdraw, after_admit, after_dismiss, after_fetched, fetched_in, missing_in, with_routing, restart_by, after_set_edge, can_restart_by, can_set_edge, notices_in, without, fetches_in, first_complete};
 
+use crate::admission::Admission;
 use crate::admitted::Admitted;
 use crate::fetches::{Fetch, first_complete, first_fetch};
 use crate::link::Link;
 use crate::notice::Notice;
 use crate::notices::{Loss, notices_of};
-use crate::order::{find, put};
+use crate::order::{find, put, put_within};
 use crate::planned::{planned_links, planned_rows};
 use crate::winners::{Row, winner_at};
 use std::alloc::{AllocError, Global};
 use std::marker::Model;
 use tez_edges::Manager;
-use tez_ids::{AttemptId, EdgeId, TaskId};
+use tez_ids::{AttemptId, EdgeId, TaskId, VertexId};
 use tez_plan::Plan;
+use tez_vman::Config;
 
 /// The edges with their managers, the winners, and what each waiting attempt has fetched.
 #[derive(Drop)]
@@ -65,6 +69,18 @@ fn restart_all(admitted: &mut [Admitted], edge: EdgeId, manager: Manager)
     }
 }
 
+fn may_reroute_all(router: &Router, links: &[Link], v: VertexId, config: Config) -> bool
+    ensures { result ≡ list_all (may_reroute router.now v.0 config) links.now }
+{
+    links.iter().all(|link| router.may_reroute(link, v, config))
+}
+
+fn has_numbers(config: Config) -> bool
+    ensures { result ≡ has_numbers config }
+{
+    config.tasks >= 1 && config.base >= 1
+}
+
 impl Router {
     /// The router of a plan: no task has a winner, no attempt is admitted, and each edge has the
     /// manager of the plan's task counts, a scatter-gather edge with base 1.
@@ -96,6 +112,58 @@ impl Router {
         restart_all(self.admitted.as_mut_slice(), e, m);
     }
 
+    /// Whether a vertex can have these tasks and this base: no task takes more partitions than there
+    /// are, and each edge at the vertex may get its manager. Takes time in the edges, and in the
+    /// admitted attempts for each edge at the vertex.
+    pub fn can_configure(&self, v: VertexId, config: Config) -> bool
+        ensures test { result ≡ may_configure self.now v.0 config }
+        ensures can { result ≡ true → CanConfigure self.now v.0 config }
+    {
+        has_numbers(config) && may_reroute_all(self, self.links.as_slice(), v, config)
+    }
+
+    #[tactic(auto, using(crate::proofs::MayConfigure::fits_one, crate::proofs::MayConfigure::numbers))]
+    fn may_reroute(&self, link: &Link, v: VertexId, config: Config) -> bool
+        ensures { result ≡ may_reroute self.now v.0 config link.now }
+    {
+        has_numbers(config)
+            && link.fits(v, config)
+            && (!link.is_at(v) || self.can_set_edge(link.edge(), link.rerouted(v, config)))
+    }
+
+    /// A vertex gets its tasks: each edge at it gets a manager of so many tasks, by `set_edge`. Takes
+    /// time in the edges, and in the admitted attempts for each edge at the vertex.
+    pub fn configure(&mut self, v: VertexId, config: Config)
+        requires { CanConfigure self.old v.0 config }
+        ensures { self.new ≡ after_set_edges self.old (links_for self.old v.0 config) }
+    {
+        for e in 0..self.edge_count() {
+            self.configure_edge(v, config, EdgeId(e));
+        }
+    }
+
+    // A plan has at most 256 edges.
+    fn edge_count(&self) -> u16
+        ensures { result ≡ length self.now.links }
+    {
+        self.links.len() as u16
+    }
+
+    // The same for one edge, those before it being done.
+    fn configure_edge(&mut self, v: VertexId, config: Config, e: EdgeId)
+        requires there { e.0 < length self.old.links }
+        requires can { CanConfigureFrom self.old v.0 config e.0 }
+        ensures can { CanConfigureFrom self.new v.0 config (suc e.0) }
+        ensures rest { after_set_edges self.new (links_from self.new v.0 config (suc e.0)) ≡ after_set_edges self.old (links_from self.old v.0 config e.0) }
+        ensures count { length self.new.links ≡ length self.old.links }
+    {
+        let link = &self.links[e.0 as usize];
+        if link.is_at(v) {
+            let manager = link.rerouted(v, config);
+            self.set_edge(e, manager);
+        }
+    }
+
     /// The attempt is its task's winner, for each consumer that is admitted now or later.
     pub fn announce(&mut self, winner: AttemptId)
         ensures { self.new ≡ after_announce self.old winner }
@@ -121,6 +189,26 @@ impl Router {
         put(&mut self.admitted, x)
     }
 
+    /// All memory that admitting the attempt takes. Changes nothing. Takes time in the edges and in the
+    /// admitted attempts.
+    pub fn admission(&self, alloc: Global, a: AttemptId) -> Result<Admission, AllocError>
+        ensures attempt { IfOk result (λ x. x.blank.attempt ≡ a) }
+        ensures fits { IfOk result (λ x. FitsRouter self.now x) }
+    {
+        let blank = Admitted::new(alloc, self.links.as_slice(), a)?;
+        let room = Vec::with_capacity(alloc, self.admitted.len() + 1)?;
+        Ok(Admission { blank, room })
+    }
+
+    /// The attempt waits from now on, and has fetched nothing. Takes no memory, and time in the
+    /// admitted attempts. An attempt of the same task that was admitted before is dismissed.
+    pub fn admit_prepared(&mut self, x: Admission)
+        requires { FitsRouter self.old x }
+        ensures { self.new ≡ after_admit self.old x.blank.attempt }
+    {
+        put_within(&mut self.admitted, x.room, x.blank);
+    }
+
     /// The attempt waits no more.
     pub fn dismiss(&mut self, a: AttemptId)
         ensures { self.new ≡ after_dismiss self.old a }
@@ -141,6 +229,26 @@ impl Router {
                 None => None,
             },
             None => None,
+        }
+    }
+
+    /// Whose output the input is, and which of them. None where the task that makes it has no winner, or
+    /// where there is no such input.
+    pub fn piece_of(&self, a: AttemptId, e: EdgeId, input: u32) -> Option<(AttemptId, u32)>
+        ensures { result ≡ piece_in self.now a e.0 input }
+    {
+        match self.source_of(a, e, input) {
+            Some(winner) => Some((winner, self.output_of(a, e, input))),
+            None => None,
+        }
+    }
+
+    fn output_of(&self, a: AttemptId, e: EdgeId, input: u32) -> u32
+        ensures { result ≡ output_in self.now a e.0 input }
+    {
+        match self.links.get(e.0 as usize) {
+            Some(link) => link.output_of(a.task.index, input),
+            None => 0,
         }
     }
 

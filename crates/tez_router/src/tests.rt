@@ -5,6 +5,7 @@ use tez_ids::{AttemptId, EdgeId, Epoch, Name, TaskId, VertexId};
 use tez_plan::{
     Columns, EdgeSpec, Head, Movement, Plan, PlanFault, Steps, VertexSpec, are_in_ranges, plan_new,
 };
+use tez_vman::Config;
 
 fn vertex(
     alloc: Global,
@@ -151,6 +152,9 @@ fn partitions_lose_their_source(rt: HostRuntime) {
     let alloc = rt.alloc();
     let plan = plan_of(alloc).expect(&rt, "memory").expect(&rt, "valid");
     let mut router = Router::new(alloc, &plan).expect(&rt, "memory");
+    let config = Config { tasks: 1, base: 2 };
+    assert!(rt; router.can_configure(VertexId(2), config));
+    router.configure(VertexId(2), config);
     let manager = Manager::ScatterGather(ScatterGather {
         sources: 2,
         parts: 2,
@@ -161,8 +165,10 @@ fn partitions_lose_their_source(rt: HostRuntime) {
     let (kept, lost, only) = (first(1, 0), first(1, 1), first(2, 0));
     router.announce(kept);
     router.announce(lost);
-    router.admit(alloc, only).expect(&rt, "memory");
+    let room = router.admission(alloc, only).expect(&rt, "memory");
+    router.admit_prepared(room);
     assert_eq!(rt; router.source_of(only, PARTS, 1), Some(kept));
+    assert_eq!(rt; router.piece_of(only, PARTS, 3), Some((lost, 1)));
     assert_eq!(rt; router.source_of(only, PARTS, 2), Some(lost));
     router.fetched(only, PARTS, 0, kept);
     let found = router.notices(alloc, lost.task).expect(&rt, "memory");

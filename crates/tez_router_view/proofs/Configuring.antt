@@ -24,7 +24,8 @@ use Rattle.tez_history.specs.Follows.{IsMade}
 use Rattle.tez_router.specs.State.{Routing}
 use Rattle.tez_router.specs.Table.{inputs_in}
 use Rattle.tez_router_view.specs.View.{router_view, routing_view, routing_for, link_view}
-use Rattle.tez_router_view.specs.Events.{after_set_edges, CanSetEdges, is_at, links_at}
+use Rattle.tez_router.specs.Configure.{after_set_edges, CanSetEdges, is_at}
+use Rattle.tez_router_view.specs.Events.{links_at}
 use Rattle.tez_router_view.proofs.Lists.{filter-map, in-filter-holds}
 use Rattle.tez_router_view.proofs.Waiting.{waiting_at, waiting_by_task, none_live}
 use Rattle.tez_router_view.proofs.Sources.{no_live_there, none_fetched_from}

@@ -23,7 +23,8 @@ use Rattle.tez_laws.proofs.Going.{extend-append}
 use Rattle.tez_router.specs.State.{Routing}
 use Rattle.tez_router.specs.Planned.{planned_router}
 use Rattle.tez_router_view.specs.View.{router_view, routing_view, links_view, winners_view}
-use Rattle.tez_router_view.specs.Events.{after_set_edges, CanSetEdges, after_announces}
+use Rattle.tez_router.specs.Configure.{after_set_edges, CanSetEdges}
+use Rattle.tez_router_view.specs.Events.{after_announces}
 use Rattle.tez_router_view.proofs.Lists.{filter_map-none, filter-same}
 use Rattle.tez_router_view.proofs.Waiting.{waiting_at, waiting_by_task, none_live}
 use Rattle.tez_router_view.proofs.Ordering.{vertex_below}

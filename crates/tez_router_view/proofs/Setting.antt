@@ -14,7 +14,7 @@ use Rattle.tez_history.specs.Derived.{waiting_attempts}
 use Rattle.tez_router.specs.State.{RouterState, LinkState, AdmittedState, EdgeInputs, Routing}
 use Rattle.tez_router.specs.Table.{inputs_in, with_routing, restart_by, restart_over, after_set_edge, can_restart, can_restart_by, can_set_edge}
 use Rattle.tez_router_view.specs.View.{router_view, routing_view, winners_view}
-use Rattle.tez_router_view.specs.Events.{after_set_edges, CanSetEdges}
+use Rattle.tez_router.specs.Configure.{after_set_edges, CanSetEdges}
 use Rattle.tez_router_view.proofs.Lists.{map-map, map-same, all-false, all-pass, length-numbers}
 use Rattle.tez_router_view.proofs.Edges.{edge_got, one_edge, edge_in, edge_target, inputs_same}
 use Rattle.tez_router_view.proofs.Ordering.{in-mapped}

@@ -1,6 +1,4 @@
 -- Steps of a router that consist of several calls, and how its answers read in the trace.
---     after_set_edges s ls       these edges have got these managers, one after another
---     CanSetEdges s ls           each may get its manager when its turn comes
 --     links_at g v past          the edges at a vertex, with the managers of the history
 --     after_announces s ws       these winners were announced, one after another
 --     after_dismisses s as       these attempts were dismissed, one after another
@@ -12,7 +10,7 @@
 --     fetch_event f              the event of a fetch
 --     after_stop s               the router once the master has stopped
 --     FitsEntry g e              a configuration that stands again has no more tasks than the plan gives
-use Rattle.std.specs.Prelude.{ℕ, ◌≤◌, Bool, ◌||◌, ◌==◌, ⊤, IsTrue, List, [], ◌∷◌, ◌++◌, map, Option, None}
+use Rattle.std.specs.Prelude.{ℕ, ◌≤◌, ⊤, List, [], ◌∷◌, ◌++◌, map, Option, None}
 use Rattle.std.specs.List.{filter, filter_map}
 use Rattle.tez_ids.specs.declared.AttemptId.{AttemptId}
 use Rattle.tez_plan.specs.Dag.{Dag, tasks_of as planned}
@@ -27,21 +25,11 @@ use Rattle.tez_history.specs.Derived.{tasks, places_on, is_on_node, next_attempt
 use Rattle.tez_router.specs.declared.fetches.Fetch.{Fetch}
 use Rattle.tez_router.specs.declared.notice.Notice.{Notice}
 use Rattle.tez_router.specs.State.{RouterState, LinkState}
-use Rattle.tez_router.specs.Table.{after_set_edge, can_set_edge, after_announce, after_dismiss, after_withdraw, notices_in}
+use Rattle.tez_router.specs.Configure.{is_at}
+use Rattle.tez_router.specs.Table.{after_announce, after_dismiss, after_withdraw, notices_in}
 use Rattle.tez_router_view.specs.View.{links_view}
 
 -- ---- a vertex is configured
-
-abbrev pub after_set_edges : RouterState → List LinkState → RouterState
-after_set_edges s [] = s
-after_set_edges s (l ∷ ls) = after_set_edges (after_set_edge s l.edge l.routing) ls
-
-abbrev pub CanSetEdges : RouterState → List LinkState → Type 0
-CanSetEdges s [] = ⊤
-CanSetEdges s (l ∷ ls) = IsTrue (can_set_edge s l.edge l.routing) × CanSetEdges (after_set_edge s l.edge l.routing) ls
-
-abbrev pub is_at : ℕ → LinkState → Bool
-is_at v l = (l.source == v) || (l.target == v)
 
 abbrev pub links_at : Dag → ℕ → Past → List LinkState
 links_at g v past = filter (is_at v) (links_view g past)

@@ -3,7 +3,7 @@
 
 ghost use Rattle.std.specs.Prelude.{◌≡◌, ◌<◌, ◌+◌, ◌^◌, Some, true, false};
 ghost use Rattle.tez_task.specs.TaskState.{TaskState, HasRoom};
-ghost use Rattle.tez_task.specs.Table.{new_task, next_of, live_of, state_of, moved_live, advanced, moved_or_ignored, queued_again, after_failure, took_failure, restored, after_event, took_event, task_after, task_took, is_winner};
+ghost use Rattle.tez_task.specs.Table.{new_task, next_of, live_of, state_of, moved_live, advanced, moved_or_ignored, queued_again, after_failure, took_failure, restored, after_event, took_event, task_after, task_took, is_winner, is_last};
 
 use std::marker::Model;
 use tez_attempt::{AttemptEvent, AttemptMachine, AttemptState, AttemptTook};
@@ -126,6 +126,13 @@ impl TaskMachine {
         ensures { result ≡ self.now.spent }
     {
         self.spent
+    }
+
+    /// Whether one failure more brings their number to the limit.
+    pub fn is_last(&self) -> bool
+        ensures { result ≡ is_last self.now }
+    {
+        self.max_failed as u64 <= self.failures as u64 + 1
     }
 
     /// The attempt that is queued next.

@@ -107,7 +107,7 @@ none_spent : (v epoch max a n : ℕ) → list_any is_spent (map (λ i. new_task 
 none_spent v epoch max a zero = refl
 none_spent v epoch max a (suc n) = none_spent v epoch max (suc a) n
 
-so_many : {Y : Type 0} (f : ℕ → Y) (a n : ℕ) → length (map f (numbers_from a n)) ≡ n
+pub so_many : {Y : Type 0} (f : ℕ → Y) (a n : ℕ) → length (map f (numbers_from a n)) ≡ n
 so_many f a zero = refl
 so_many f a (suc n) = ap suc (so_many f (suc a) n)
 

@@ -10,9 +10,9 @@ ghost use Rattle.tez_lists.specs.Numbers.{numbers_from};
 ghost use Rattle.tez_ids.specs.Same.{task};
 ghost use Rattle.tez_task.specs.declared.TaskEvent.{TaskEvent};
 ghost use Rattle.tez_task.specs.TaskState.{TaskState, HasRoom};
-ghost use Rattle.tez_task.specs.Table.{new_task, next_of, live_of, state_of, task_took};
+ghost use Rattle.tez_task.specs.Table.{new_task, next_of, live_of, state_of, task_took, is_last};
 ghost use Rattle.tez_vertex.specs.Vertex.{Vertex};
-ghost use Rattle.tez_vertex.specs.Table.{new_vertex, task_of, state_by, state, has_failed, is_ignored, is_last_failure, after_configure, after_take, after_restore, IsFresh};
+ghost use Rattle.tez_vertex.specs.Table.{new_vertex, new_tasks, task_of, state_by, state, has_failed, is_ignored, is_last_failure, after_configure, after_take, after_restore, IsFresh};
 
 use std::alloc::{AllocError, Global};
 use std::marker::Model;
@@ -34,8 +34,8 @@ pub enum VertexState {
     Failed,
 }
 
-/// A vertex with its tasks, which are numbered from 0. Each call but `configure` takes constant
-/// time.
+/// A vertex with its tasks, which are numbered from 0. Each call but `configure` and `new_tasks` takes
+/// constant time.
 #[derive(Drop)]
 pub struct VertexMachine {
     vertex: VertexId,
@@ -56,6 +56,23 @@ impl Model for VertexMachine {
     ghost view = { λ m. record { vertex = m.vertex; epoch = m.epoch.0; max_failed = m.max_failed; configured = m.configured; tasks = m.tasks.items; moved = m.moved } };
 
     ghost invariant = { λ m. IsCounted m.tasks.items m.max_failed m.won m.spent };
+}
+
+/// The tasks that a vertex gets when it is configured.
+#[derive(Drop)]
+pub struct NewTasks {
+    tasks: Vec<TaskMachine>,
+}
+
+impl Model for NewTasks {
+    ghost use Rattle.std.specs.Prelude.{◌<◌, ◌^◌, List, length};
+    ghost use Rattle.tez_task.specs.TaskState.{TaskState};
+
+    ghost Value = { List TaskState };
+
+    ghost view = { λ x. x.tasks.items };
+
+    ghost invariant = { λ x. length x.tasks.items < 2 ^ 32 };
 }
 
 impl VertexMachine {
@@ -94,6 +111,28 @@ impl VertexMachine {
         self.won = 0;
         self.spent = false;
         Ok(true)
+    }
+
+    /// So many tasks for the vertex, none of which has an attempt yet. Takes all memory that giving
+    /// them to it needs, and changes nothing.
+    pub fn new_tasks(&self, alloc: Global, tasks: u32) -> Result<NewTasks, AllocError>
+        ensures { IfOk result (λ x. x ≡ new_tasks self.now tasks) }
+    {
+        let machines = new_tasks(alloc, self.vertex, self.epoch, self.max_failed, tasks)?;
+        Ok(NewTasks { tasks: machines })
+    }
+
+    /// Gives the vertex its tasks. Changes nothing where it has them already. Takes no memory.
+    pub fn configure_with(&mut self, x: NewTasks)
+        requires { x ≡ new_tasks self.old (length x) }
+        ensures { self.new ≡ after_configure self.old (length x) }
+    {
+        if !self.configured {
+            self.tasks = x.tasks;
+            self.configured = true;
+            self.won = 0;
+            self.spent = false;
+        }
     }
 
     /// Sets what an earlier master left of a task. To be called before its first attempt is queued.
@@ -167,6 +206,14 @@ impl VertexMachine {
         ensures { option_map (λ t. t.failures) (task_of self.now task) ≡ Some result }
     {
         self.machine(task).failures()
+    }
+
+    /// Whether one failure more of a task is its last.
+    pub fn is_last(&self, task: u32) -> bool
+        requires { task < length self.now.tasks }
+        ensures { option_map is_last (task_of self.now task) ≡ Some result }
+    {
+        self.machine(task).is_last()
     }
 
     /// The attempt of a task that is queued next.
