@@ -1,0 +1,10 @@
+pub mod Lists
+pub mod Tasks
+pub mod Places
+pub mod Queues
+pub mod Layouts
+pub mod First
+pub mod NodeLoss
+pub mod Beginning
+pub mod Steps
+pub mod Configuring

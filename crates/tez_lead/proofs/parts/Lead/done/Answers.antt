@@ -1,0 +1,5 @@
+use Rattle.tez_lead.proofs.Steps.{kept_after, done_steps}
+use Rattle.tez_lead.proofs.parts.Lead.done.Goals as goal
+
+pub invariant_of-self : goal.invariant_of-self
+invariant_of-self c = kept_after _ _ _ _ _ c.args.a.task c.self.invariant c.done.ensures (done_steps _ c.args.a c.args.made.now) c.refresh.ensures

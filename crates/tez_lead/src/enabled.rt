@@ -1,0 +1,51 @@
+//! Which events may come, and why another one may not.
+ghost use Rattle.std.specs.Prelude.{◌≡◌};
+ghost use Rattle.tez_events.specs.declared.CoreEvent.{CoreEvent};
+ghost use Rattle.tez_control.specs.Read.{is_shallower_queued, depth_in};
+ghost use Rattle.tez_control.specs.Enabled.{enabled_in, why_not};
+
+use crate::parts::Lead;
+use tez_control::Why;
+use tez_events::CoreEvent;
+use tez_ids::AttemptId;
+
+impl Lead {
+    /// Whether an event may come now. To open and to restart is not the master's. Takes time in the
+    /// vertices and edges.
+    pub fn is_enabled(&self, e: &CoreEvent) -> bool
+        ensures { result ≡ enabled_in self.now e.now }
+    {
+        match *e {
+            CoreEvent::Preempt(a) => self.may_preempt(a),
+            _ => self.core.is_enabled(e),
+        }
+    }
+
+    /// Whether a waiting attempt may give up its place: no place is free, and a queued attempt has a
+    /// lesser depth.
+    pub fn may_preempt(&self, a: AttemptId) -> bool
+        ensures { result ≡ enabled_in self.now (CoreEvent.Preempt a) }
+    {
+        self.core.is_running()
+            && self.core.waits(a)
+            && self.core.free_place().is_none()
+            && self.is_shallower_queued(a)
+    }
+
+    fn is_shallower_queued(&self, a: AttemptId) -> bool
+        ensures { result ≡ is_shallower_queued self.now (depth_in self.now a) }
+    {
+        let _valid = self.core.vertices();
+        match self.first_queued() {
+            Some(b) => { self.core.depth_of(b.task.vertex) < self.core.depth_of(a.task.vertex) }
+            None => false,
+        }
+    }
+
+    /// Why an event is ignored that may not come.
+    pub fn why_not(&self, e: &CoreEvent) -> Why
+        ensures { result ≡ why_not self.now e.now }
+    {
+        self.core.why_not(e)
+    }
+}
