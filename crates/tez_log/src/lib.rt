@@ -1,0 +1,8 @@
+//! The log of a run: the entries of its trace, and the records that it appended to its journal.
+#![tactic(auto)]
+
+mod log;
+#[cfg(test)]
+mod tests;
+
+pub use log::Log;
