@@ -1,0 +1,11 @@
+pub mod PartsNumbers
+pub mod PartsKeep
+pub mod PartsTaking
+pub mod PartsPlaces
+pub mod PartsInputs
+pub mod PartsLosses
+pub mod EndsMaster
+pub mod EndsStore
+pub mod EndsBegin
+pub mod EndsCommit
+pub mod EndsReports

@@ -1,0 +1,11 @@
+pub mod Named
+pub mod Names
+pub mod Records
+pub mod Parts
+pub mod Publications
+pub mod Sums
+pub mod Quiet
+pub mod Stores
+pub mod Bads
+pub mod Wells
+pub mod Commits

@@ -1,0 +1,12 @@
+use Rattle.tez_sinks.proofs.Names.{sums_are}
+use Rattle.tez_sinks.proofs.Sums.{all_readied}
+use Rattle.tez_sinks.proofs.result.sums_of_sinks.Goals as goal
+
+pub returns-clause-sinks : goal.returns-clause-sinks
+returns-clause-sinks c = sums_are
+
+pub returns-clause-readied : goal.returns-clause-readied
+returns-clause-readied c = all_readied
+
+pub returns-clause-committing : goal.returns-clause-committing
+returns-clause-committing c = λ job k past w committing. all_readied job k past w.made (w.committed committing)
