@@ -1,5 +1,5 @@
 -- What the first bytes of two records say of their order.
-use Rattle.std.proofs.Common.{◌≡◌, cond, ◌==◌, rules, ℕ, zero, suc, ◌+◌, ◌*◌, ◌<◌, List, [], ◌∷◌, slice_index, refl, sym, ap, ◌∙◌, subst, arith, ◌⊎◌, ⊎_elim, Less, Greater, Equal, inl, inr}
+use Rattle.std.proofs.Common.{◌≡◌, cond, ◌==◌, rules, ℕ, zero, suc, ◌+◌, ◌*◌, ◌<◌, List, [], ◌∷◌, length, ◌≤◌, slice_index, refl, sym, ap, ◌∙◌, subst, arith, ◌⊎◌, ⊎_elim, Less, Greater, Equal, inl, inr}
 use Rattle.std.proofs.lemmas.Bool.{cases_lt, lt-ltb}
 use Rattle.std.specs.Ordering.{nat_cmp, ordering_reverse, ordering_then}
 use Rattle.std.specs.Cmp.Lexicographic.{nat_list_cmp_total, slice_cmp}
@@ -23,8 +23,22 @@ same_front (suc n) a b p q e k low =
 nat_less : (x y : ℕ) → x < y → nat_cmp x y ≡ Less
 nat_less x y less = ap (λ t. cond t Less (cond (x == y) Equal Greater)) (lt-ltb x y less)
 
+nat_more : (x y : ℕ) → y < x → nat_cmp x y ≡ Greater
+nat_more x y less = grind (arith, rules)
+
 nat_same : (x y : ℕ) → x ≡ y → nat_cmp x y ≡ Equal
 nat_same x y e = grind (arith, rules)
+
+nat_next : (x y : ℕ) → nat_cmp x y ≡ nat_cmp (suc x) (suc y)
+nat_next x y =
+    ⊎_elim (λ less. nat_less x y less ∙ sym (nat_less (suc x) (suc y) (omega arith)))
+    (λ more.
+    ⊎_elim (λ greater. nat_more x y greater ∙ sym (nat_more (suc x) (suc y) (omega arith)))
+    (λ low.
+    let e : x ≡ y = omega arith in
+    nat_same x y e ∙ sym (nat_same (suc x) (suc y) (omega arith)))
+    (cases_lt y x))
+    (cases_lt x y)
 
 -- the first byte that differs decides
 first_differs : (a b : List ℕ) (n : ℕ) → ((k : ℕ) → k < n → slice_index a k ≡ slice_index b k) → slice_index a n < slice_index b n → compare a b ≡ Less
@@ -58,3 +72,17 @@ key_less f g a b p q less = sym (front_less 16 a b p.1 q.1 (subst (λ n. n < fro
 
 pub key_greater : (f g : ℕ) (a b : List ℕ) → (f ≡ front 16 a) × Bytes a → (g ≡ front 16 b) × Bytes b → g < f → Greater ≡ compare a b
 key_greater f g a b p q less = sym (front_greater 16 a b p.1 q.1 (subst (λ n. n < front 16 a) q.0 (subst (λ n. g < n) p.0 less)))
+
+-- of records with the same bytes, the longer one, which only adds zeros, is the greater one
+same_bytes : (n : ℕ) (a b : List ℕ) → length a ≤ n → length b ≤ n → ((k : ℕ) → k < n → slice_index a k ≡ slice_index b k) → compare a b ≡ nat_cmp (length a) (length b)
+same_bytes n [] [] p q same = refl
+same_bytes n [] (y ∷ b) p q same = sym (nat_less 0 (suc (length b)) (omega arith))
+same_bytes n (x ∷ a) [] p q same = sym (nat_more (suc (length a)) 0 (omega arith))
+same_bytes zero (x ∷ a) (y ∷ b) p q same = absurd (omega arith)
+same_bytes (suc n) (x ∷ a) (y ∷ b) p q same =
+    let rest = same_bytes n a b (omega arith) (omega arith) (λ k low. same (suc k) (omega arith)) in
+    let e : x ≡ y = same 0 (omega arith) in
+    ap (λ o. ordering_then o (slice_cmp nat_cmp a b)) (nat_same x y e) ∙ rest ∙ nat_next (length a) (length b)
+
+pub key_short : (f g : ℕ) (a b : List ℕ) → (f ≡ front 16 a) × Bytes a → (g ≡ front 16 b) × Bytes b → f ≡ g → length a ≤ 16 → length b ≤ 16 → nat_cmp (length a) (length b) ≡ compare a b
+key_short f g a b p q e short low = sym (same_bytes 16 a b short low (same_front 16 a b p.1 q.1 (sym p.0 ∙ e ∙ q.0)))

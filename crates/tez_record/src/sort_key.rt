@@ -1,4 +1,5 @@
-// Records as a sort compares them: first by a number of their first bytes, which tells most pairs apart.
+// Records as a sort compares them: first by a number of their first bytes, which tells most pairs
+// apart. Of short records that have the same number, the longer one only adds zeros.
 ghost use Rattle.std.specs.Prelude.{◌≡◌, ℕ, ◌<◌, List, slice_index};
 ghost use Rattle.std.proofs.Common.{rules};
 ghost use Rattle.std.specs.Cmp.{partial_order_from_own_ties};
@@ -115,6 +116,9 @@ impl<'a> Ord for SortKey<'a> {
         }
         if self.first > other.first {
             return Ordering::Greater;
+        }
+        if self.bytes.len() <= 16 && other.bytes.len() <= 16 {
+            return self.bytes.len().cmp(&other.bytes.len());
         }
         self.bytes.cmp(&other.bytes)
     }
