@@ -156,7 +156,7 @@ impl Records {
 fn keys_of<'a>(alloc: Global, records: &'a Records) -> Result<Vec<SortKey<'a>>, AllocError>
     ensures { IfOk result (λ keys. keys.items ≡ records.now) }
 {
-    let mut keys = Vec::new(alloc);
+    let mut keys = Vec::with_capacity(alloc, records.len())?;
     for line in records.iter() {
         keys.push(SortKey::new(line))?;
     }
