@@ -187,7 +187,7 @@ publish_name job c ps past v h on = publish_named job c past v (is_enabled job c
 -- ---- the end
 
 -- the commit had started, and no stop came since
-finished_committing : (job : Job) (c : ConfValues) (past : Past) → IsMade job.plan c past → HasNone is_over past → HasNone is_stop past → is_finished past ≡ true → is_committing past ≡ true
+pub finished_committing : (job : Job) (c : ConfValues) (past : Past) → IsMade job.plan c past → HasNone is_over past → HasNone is_stop past → is_finished past ≡ true → is_committing past ≡ true
 finished_committing job c [] m over stop h = cc
 finished_committing job c (Finished ∷ past) m over stop h = m.0.0
 finished_committing job c (Over ∷ past) m over stop h = let no = over.0 in cc
