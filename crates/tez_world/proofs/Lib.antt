@@ -1,0 +1,16 @@
+pub mod Commits
+pub mod Events
+pub mod Failing
+pub mod FirstSinks
+pub mod NoteLaws
+pub mod Openings
+pub mod Reported
+pub mod Sending
+pub mod Spent
+pub mod StepLaws
+pub mod Storing
+pub mod Taking
+pub mod Tellings
+pub mod WellLaws
+pub mod RunLaws
+pub mod Driven

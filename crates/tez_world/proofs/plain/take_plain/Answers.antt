@@ -1,0 +1,32 @@
+use Rattle.std.specs.Prelude.{length, is_some, ◌≤◌}
+use Rattle.std.proofs.Common.{ap, sym, refl, subst}
+use Rattle.tez_control.specs.View.{master_view}
+use Rattle.tez_world.proofs.Taking.{is_on, went, changed, short_later, notes_settled}
+use Rattle.tez_world.proofs.Events.{quiet_kept}
+use Rattle.tez_world.proofs.plain.take_plain.Goals as goal
+
+pub settle-requires : goal.settle-requires
+settle-requires c =
+    let on = is_on (master_view c.args.job.now.plan c.args.conf.now c.args.log.now.past) c.args.e c.in_ok-handled.handled c.in_ok-handled.ensures.taken (went c.in_ok-handled.handled c.in_default.not-Ignored) in
+    let asked = c.in_ok-handled.ensures.asked on in
+    record {
+      pending = ap is_some asked.pending;
+      numbers = c.ask.ensures.numbers;
+      steady = c.ask.ensures.steady;
+      entries = subst (λ es. length es ≤ c.ask.new.log.entry_room) (sym asked.told) asked.entries_fit;
+      records = asked.records_fit;
+    }
+
+pub returns : goal.returns
+returns c =
+    let on = is_on (master_view c.args.job.now.plan c.args.conf.now c.args.log.now.past) c.args.e c.in_ok-handled.handled c.in_ok-handled.ensures.taken (went c.in_ok-handled.handled c.in_default.not-Ignored) in
+    let asked = c.in_ok-handled.ensures.asked on in
+    record {
+      taken = changed c.args.job.now c.args.conf.now c.args.e c.args.running.now c.ask.new.running c.ask.new.running c.settle.new.running c.args.log.now c.ask.new.log c.settle.new.log c.in_ok-handled.handled on c.ask.ensures.parts c.ask.ensures.log asked
+          (record { kept = refl; master = c.settle.ensures.master; desks = c.settle.ensures.desks; shelves = c.settle.ensures.shelves; texts = c.settle.ensures.texts; sums = c.settle.ensures.sums; past = c.settle.ensures.past })
+          (quiet_kept c.args.job.now c.args.conf.now c.args.running.now c.ask.new.running c.args.log.now.past c.args.e c.ask.ensures.parts c.requires.plain c.requires.holds on
+          (short_later c.args.job.now c.args.conf.now c.args.e c.ask.new.running c.args.log.now c.ask.new.log c.in_ok-handled.handled c.ask.ensures.log asked));
+      refused_parts = tt;
+      notes = notes_settled c.args.running.now c.ask.new.running c.settle.new.running c.ask.ensures.notes (c.settle.ensures.texts) (c.settle.ensures.sums);
+      refused_log = tt;
+    }

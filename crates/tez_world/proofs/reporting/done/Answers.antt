@@ -1,0 +1,81 @@
+use Rattle.std.specs.Prelude.{◌≡◌, ◌<◌, ℕ, option_map, if◌then◌else◌, length, map, Some, None, is_some, refl}
+use Rattle.std.proofs.Common.{ap, sym, ◌∙◌, subst, inr}
+use Rattle.tez_record.specs.Bag.{text}
+use Rattle.tez_plan.specs.Dag.{Dag}
+use Rattle.tez_ports.specs.Content.{Told, IsEither}
+use Rattle.tez_history.specs.History.{Past, extend}
+use Rattle.tez_history.specs.Steps.{done_entries}
+use Rattle.tez_shelves.specs.Shelf.{shelf}
+use Rattle.tez_desks.specs.Desks.{DesksState}
+use Rattle.tez_control.specs.State.{MasterState}
+use Rattle.tez_control.specs.Settled.{after_done}
+use Rattle.tez_control.specs.Laws.{bytes_of}
+use Rattle.tez_keeping.specs.Keeping.{most_entries}
+use Rattle.tez_master.specs.Master.{Reported, MasterParts, HasNumbers, entries_told}
+use Rattle.tez_control.specs.Steady.{IsSteady}
+use Rattle.tez_world.specs.World.{Notes, Stands}
+use Rattle.tez_world.specs.Holds.{notes_of}
+use Rattle.tez_world.specs.Reporting.{staged_for}
+use Rattle.tez_world.proofs.Taking.{length_extend, notes_settled}
+use Rattle.tez_world.proofs.Reported.{tried_told, fault_told, stands_told, numbers_now, steady_now, stage_now, works_now, done_holds, on_ok}
+use Rattle.tez_world.proofs.reporting.done.Goals as goal
+
+pub returns-in-Err-NoMemory-clause-store_refused : goal.returns-in-Err-NoMemory-clause-store_refused
+returns-in-Err-NoMemory-clause-store_refused g c before told =
+    tried_told c.args.job.now c.args.conf.now c.args.running.now c.args.log.now.past c.args.at c.args.value.now c.args.pieces c.requires.holds c.requires.works c.requires.due before (notes_of c.args.running.now) c.make_room.new.log.past (g.S.OutputStore.store c.args.store.now) (g.S.OutputStore.store c.stage.new.store) c.make_room.ensures.log.past (subst (λ (d : Dag). IsEither (staged_for d c.args.at.a (text c.args.value.now)) (g.S.OutputStore.store c.args.store.now) (g.S.OutputStore.store c.stage.new.store)) c.plan-2.ensures c.in-Err-NoMemory.ensures.err) told
+
+pub returns-in-Err-Failed-clause-store : goal.returns-in-Err-Failed-clause-store
+returns-in-Err-Failed-clause-store g c before told =
+    fault_told c.args.job.now c.args.conf.now c.args.running.now c.args.log.now.past c.args.at c.args.value.now c.args.pieces c.requires.holds c.requires.works c.requires.due before (notes_of c.args.running.now) c.make_room.new.log.past (g.S.OutputStore.store c.args.store.now) (g.S.OutputStore.store c.stage.new.store) c.make_room.ensures.log.past (subst (λ (d : Dag). IsEither (staged_for d c.args.at.a (text c.args.value.now)) (g.S.OutputStore.store c.args.store.now) (g.S.OutputStore.store c.stage.new.store)) c.plan-2.ensures c.in-Err-Failed.ensures.err) told
+
+pub returns-in-Err-Stopped-clause-store : goal.returns-in-Err-Stopped-clause-store
+returns-in-Err-Stopped-clause-store g c before told =
+    fault_told c.args.job.now c.args.conf.now c.args.running.now c.args.log.now.past c.args.at c.args.value.now c.args.pieces c.requires.holds c.requires.works c.requires.due before (notes_of c.args.running.now) c.make_room.new.log.past (g.S.OutputStore.store c.args.store.now) (g.S.OutputStore.store c.stage.new.store) c.make_room.ensures.log.past (subst (λ (d : Dag). IsEither (staged_for d c.args.at.a (text c.args.value.now)) (g.S.OutputStore.store c.args.store.now) (g.S.OutputStore.store c.stage.new.store)) c.plan-2.ensures c.in-Err-Stopped.ensures.err) told
+
+pub returns-then-is_err-clause-store_refused : goal.returns-then-is_err-clause-store_refused
+returns-then-is_err-clause-store_refused g c before told =
+    tried_told c.args.job.now c.args.conf.now c.args.running.now c.args.log.now.past c.args.at c.args.value.now c.args.pieces c.requires.holds c.requires.works c.requires.due before (notes_of c.args.running.now) c.make_room.new.log.past (g.S.OutputStore.store c.args.store.now) (g.S.OutputStore.store c.stage.new.store) c.make_room.ensures.log.past (inr (subst (λ (d : Dag). g.S.OutputStore.store c.stage.new.store ≡ option_map (staged_for d c.args.at.a (text c.args.value.now)) (g.S.OutputStore.store c.args.store.now)) c.plan-2.ensures c.in-Ok.ensures.ok)) told
+
+pub settle-requires-clause-numbers : goal.settle-requires-clause-numbers
+settle-requires-clause-numbers g c = subst HasNumbers (sym c.done.ensures.same) (numbers_now c.args.job.now c.args.conf.now c.args.running.now c.args.log.now.past c.requires.holds)
+
+pub settle-requires-clause-steady : goal.settle-requires-clause-steady
+settle-requires-clause-steady g c = subst IsSteady (sym c.done.ensures.same) (steady_now c.args.job.now c.args.conf.now c.args.running.now c.args.log.now.past c.requires.holds)
+
+pub settle-requires-clause-pending : goal.settle-requires-clause-pending
+settle-requires-clause-pending g c =
+    let on = works_now c.args.job.now c.args.conf.now c.args.running.now c.args.log.now.past c.args.at.a c.requires.holds c.requires.works.works in
+    ap is_some (c.in_ok-handled.ensures.pending ∙ ap (λ b. if b then Some (Reported c.args.at.a c.as_slice.result.now) else None) on)
+
+pub returns-clause-taken : goal.returns-clause-taken
+returns-clause-taken g c =
+    let a = c.args.at.a in
+    let on = works_now c.args.job.now c.args.conf.now c.args.running.now c.args.log.now.past a c.requires.holds c.requires.works.works in
+    let bytes = c.as_slice.result.now in
+    let next : c.settle.new.log.past ≡ extend c.args.log.now.past (done_entries a (map bytes_of bytes)) =
+    c.settle.ensures.past ∙ ap (λ (p : Past). extend p (entries_told c.in_ok-handled.handled)) c.make_room.ensures.log.past ∙ ap (extend c.args.log.now.past) (c.in_ok-handled.ensures.entries on) in
+    let pend : c.done.new.self.pending ≡ Some (Reported a bytes) = c.in_ok-handled.ensures.pending ∙ ap (λ b. if b then Some (Reported a bytes) else None) on in
+    let short : length c.settle.new.log.past < most_entries =
+    subst (λ (n : ℕ). n < most_entries) (sym (ap length c.settle.ensures.past ∙ length_extend c.make_room.new.log.past (entries_told c.in_ok-handled.handled))) c.in_ok-make_room.ensures.short in (
+      stage_now c.args.job.now c.args.conf.now c.args.running.now c.args.log.now.past a c.requires.holds c.requires.works.works,
+      (map bytes_of bytes, next),
+      done_holds c.args.job.now c.args.conf.now c.args.running.now c.args.log.now.past c.args.at c.args.value.now c.args.pieces c.requires.holds c.requires.works c.requires.due c.settle.new.running c.settle.new.log.past bytes
+          (record {
+            master = ap (λ (m : MasterParts). m.state) (c.settle.ensures.master (Reported a bytes) pend) ∙ ap (λ (m : MasterState). after_done m a bytes) c.done.ensures.same;
+            desks = ap (λ (d : DesksState). d.desks) (c.settle.ensures.desks ∙ c.leave.ensures);
+            shelves = λ b. ap (shelf b) c.settle.ensures.shelves ∙ on_ok c.put.result _ (sym c.is_err.ensures.value ∙ c.if-is_err.false) c.put.ensures.there b;
+            next = next;
+            short = short;
+          }),
+    )
+
+pub returns-clause-store : goal.returns-clause-store
+returns-clause-store g c before told =
+    let a = c.args.at.a in
+    let on = works_now c.args.job.now c.args.conf.now c.args.running.now c.args.log.now.past a c.requires.holds c.requires.works.works in
+    let bytes = c.as_slice.result.now in
+    let next : c.settle.new.log.past ≡ extend c.args.log.now.past (done_entries a (map bytes_of bytes)) =
+    c.settle.ensures.past ∙ ap (λ (p : Past). extend p (entries_told c.in_ok-handled.handled)) c.make_room.ensures.log.past ∙ ap (extend c.args.log.now.past) (c.in_ok-handled.ensures.entries on) in
+    let ok = subst (λ (d : Dag). g.S.OutputStore.store c.stage.new.store ≡ option_map (staged_for d a (text c.args.value.now)) (g.S.OutputStore.store c.args.store.now)) c.plan-2.ensures c.in-Ok.ensures.ok in
+    subst (λ (n : Notes). Told (g.S.OutputStore.store c.stage.new.store) (Stands c.args.job.now before c.settle.new.log.past n)) (sym (notes_settled c.args.running.now c.args.running.now c.settle.new.running refl c.settle.ensures.texts c.settle.ensures.sums))
+    (stands_told c.args.job.now c.args.conf.now c.args.running.now c.args.log.now.past c.args.at c.args.value.now c.args.pieces c.requires.holds c.requires.works c.requires.due (map bytes_of bytes) before (notes_of c.args.running.now) c.settle.new.log.past (g.S.OutputStore.store c.args.store.now) (g.S.OutputStore.store c.stage.new.store) next ok told)
