@@ -1,16 +1,16 @@
 -- From the reads and the DAG file to a plan and a job; and that each is one.
-use Rattle.std.proofs.Common.{◌≡◌, ◌⊎◌, ℕ, ◌≤◌, true, false, List, Option, Some, None, Result, Ok, Err, refl, inl, inr, ◌∙◌, sym, subst, ap}
+use Rattle.std.proofs.Common.{◌≡◌, ◌⊎◌, ℕ, ◌≤◌, List, Option, Some, None, Result, Ok, Err, refl, inl, inr, ◌∙◌, sym, subst, ap}
 use Rattle.tez_dag_json.specs.Due.{IsDue}
 use Rattle.tez_dag_json.specs.declared.fault.DagFault.{DagFault}
 use Rattle.tez_dag_json.proofs.Due.{one_due}
 use Rattle.tez_ports.specs.Content.{Named, Told}
 use Rattle.tez_meaning.specs.Jobs.{Job}
-use Rattle.tez_am.specs.Accept.{Planned, and_then, Next, content, IsContent, dag_limit, dag_bytes, IsDagOf, IsDag, AfterDag, any_job, is_one_task, run_job, with_sources, IsJob}
+use Rattle.tez_am.specs.Accept.{Planned, and_then, Next, content, IsContent, dag_limit, dag_bytes, IsDagOf, IsDag, AfterDag, run_job, with_sources, IsJob}
 use Rattle.tez_am.specs.Call.{Reads}
 use Rattle.tez_am.specs.Cause.{Refusal}
 use Rattle.tez_am.proofs.Publishing.{rose_later}
 use Rattle.tez_am.specs.declared.status.Status.{Status}
-use Rattle.tez_am.specs.declared.status.Status.TheVariants.{Usage, DagRefused, InputMissing, InputTooLarge, InputFault, OtherForm, NoMemory}
+use Rattle.tez_am.specs.declared.status.Status.TheVariants.{Usage, DagRefused, InputMissing, InputTooLarge, InputFault, NoMemory}
 
 -- a refusal of one check that is one of the next
 pub refusal_from : {A B : Type 0} (P : Named → Result A Status → Type 0) (Q : Named → Result B Status → Type 0) (reads : Reads) (s : Status)
@@ -19,7 +19,6 @@ refusal_from P Q reads (DagRefused fault) step h = λ m t. step m (DagRefused fa
 refusal_from P Q reads (InputMissing name) step h = λ m t. step m (InputMissing name) (h m t)
 refusal_from P Q reads (InputTooLarge name) step h = λ m t. step m (InputTooLarge name) (h m t)
 refusal_from P Q reads (InputFault name) step h = h
-refusal_from P Q reads OtherForm step h = λ m t. step m OtherForm (h m t)
 refusal_from P Q reads NoMemory step h = tt
 refusal_from P Q reads _ step h = absurd h
 
@@ -75,48 +74,23 @@ later_refusal {A} {B} P Q old mid before between now failed same later step s h 
   by (InputMissing n) h = due (InputMissing n) h
   by (InputTooLarge n) h = due (InputTooLarge n) h
   by (InputFault n) h = (rose_later _ _ _ later h.0, h.1)
-  by OtherForm h = due OtherForm h
   by NoMemory h = tt
   by _ h = absurd h
 
 -- ---- the job
 
--- of any plan
+job_at : (word : Option (List ℕ)) (said : Planned) (m : Named) (answer : Result Job Status) → IsDag word m (Ok said) → with_sources m said.0 ≡ answer → IsJob word m answer
+job_at word said m answer is due = after_at run_job word said m answer is (sym due)
 
-any_at : (word : Option (List ℕ)) (said : Planned) (m : Named) (answer : Result Job Status) → IsDag word m (Ok said) → with_sources m said.0 ≡ answer → AfterDag any_job word m answer
-any_at word said m answer is due = after_at any_job word said m answer is (sym due)
+pub job_read : (word : Option (List ℕ)) (said : Planned) (job : Job) (old mid : Option Named) → mid ≡ old → Told old (λ m. IsDag word m (Ok said)) → Told mid (λ m. with_sources m said.0 ≡ Ok job)
+    → Told old (λ m. IsJob word m (Ok job))
+job_read word said job old mid same is read m t = job_at word said m (Ok job) (is m t) (read m (same ∙ t))
 
-pub any_read : (word : Option (List ℕ)) (said : Planned) (job : Job) (old mid : Option Named) → mid ≡ old → Told old (λ m. IsDag word m (Ok said)) → Told mid (λ m. with_sources m said.0 ≡ Ok job)
-    → Told old (λ m. AfterDag any_job word m (Ok job))
-any_read word said job old mid same is read m t = any_at word said m (Ok job) (is m t) (read m (same ∙ t))
-
-pub any_unread : (word : Option (List ℕ)) (said : Planned) (old mid : Option Named) (before between now : ℕ) (failed : List ℕ) → mid ≡ old → before ≤ between → Told old (λ m. IsDag word m (Ok said))
+pub job_unread : (word : Option (List ℕ)) (said : Planned) (old mid : Option Named) (before between now : ℕ) (failed : List ℕ) → mid ≡ old → before ≤ between → Told old (λ m. IsDag word m (Ok said))
     → (s : Status) → Refusal (λ m answer. with_sources m said.0 ≡ answer) (record { files = mid; before = between; now = now; failed = failed }) s
-    → Refusal (AfterDag any_job word) (record { files = old; before = before; now = now; failed = failed }) s
-any_unread word said old mid before between now failed same later is s h =
-    later_refusal (λ m answer. with_sources m said.0 ≡ answer) (AfterDag any_job word) old mid before between now failed same later (λ m t r due. any_at word said m (Err r) (is m t) due) s h
-
--- of one that can be run
-
-job_at : (word : Option (List ℕ)) (said : Planned) (m : Named) (answer : Result Job Status) → IsDag word m (Ok said) → is_one_task said.0 ≡ true → with_sources m said.0 ≡ answer → IsJob word m answer
-job_at word said m answer is one due = after_at run_job word said m answer is (sym due ∙ can one) where
-  can : is_one_task said.0 ≡ true → with_sources m said.0 ≡ run_job m said
-  can one = rw one refl
-
-pub job_read : (word : Option (List ℕ)) (said : Planned) (job : Job) (old mid : Option Named) → mid ≡ old → is_one_task said.0 ≡ true → Told old (λ m. IsDag word m (Ok said))
-    → Told mid (λ m. with_sources m said.0 ≡ Ok job) → Told old (λ m. IsJob word m (Ok job))
-job_read word said job old mid same one is read m t = job_at word said m (Ok job) (is m t) one (read m (same ∙ t))
-
-pub job_unread : (word : Option (List ℕ)) (said : Planned) (old mid : Option Named) (before between now : ℕ) (failed : List ℕ) → mid ≡ old → before ≤ between → is_one_task said.0 ≡ true
-    → Told old (λ m. IsDag word m (Ok said)) → (s : Status) → Refusal (λ m answer. with_sources m said.0 ≡ answer) (record { files = mid; before = between; now = now; failed = failed }) s
     → Refusal (IsJob word) (record { files = old; before = before; now = now; failed = failed }) s
-job_unread word said old mid before between now failed same later one is s h =
-    later_refusal (λ m answer. with_sources m said.0 ≡ answer) (IsJob word) old mid before between now failed same later (λ m t r due. job_at word said m (Err r) (is m t) one due) s h
-
-pub other_form : (word : Option (List ℕ)) (said : Planned) (reads : Reads) → is_one_task said.0 ≡ false → Told reads.files (λ m. IsDag word m (Ok said)) → Refusal (IsJob word) reads OtherForm
-other_form word said reads not_one is m t = after_at run_job word said m (Err OtherForm) (is m t) (cannot not_one) where
-  cannot : is_one_task said.0 ≡ false → Err OtherForm ≡ run_job m said
-  cannot h = rw h refl
+job_unread word said old mid before between now failed same later is s h =
+    later_refusal (λ m answer. with_sources m said.0 ≡ answer) (IsJob word) old mid before between now failed same later (λ m t r due. job_at word said m (Err r) (is m t) due) s h
 
 -- ---- one answer is due
 

@@ -1,22 +1,27 @@
 -- How a call ends, from how its run ended and from what was said.
-use Rattle.std.proofs.Common.{◌≡◌, ◌≢◌, ℕ, List, Some, None, Result, Ok, Err, IfOk, IfErr, OnOk, refl, inl, inr, sym, subst, ap}
+use Rattle.std.proofs.Common.{◌≡◌, ◌≢◌, ℕ, List, reverse, Option, Some, None, Result, Ok, Err, IfOk, IfErr, OnOk, refl, inl, inr, sym, subst, ap}
 use Rattle.tez_ports.specs.Causes.{Rose}
-use Rattle.tez_ports.specs.Content.{Told}
+use Rattle.tez_ports.specs.Content.{Named, Told}
+use Rattle.tez_conf.specs.declared.values.ConfValues.{ConfValues}
+use Rattle.tez_events.specs.declared.Entry.{Entry}
 use Rattle.tez_meaning.specs.Jobs.{Job}
+use Rattle.tez_world.specs.Lawful.{IsTrace}
 use Rattle.tez_am.specs.Accept.{IsJob, IsAccepted}
 use Rattle.tez_am.specs.Call.{Writes, Call, Wrote, WrotePart}
 use Rattle.tez_am.specs.Cause.{Refusal, ForJob, Cause, IsTextOf, Leaves, MayPublish, SaidNoMemory, Writing}
 use Rattle.tez_am.specs.Publish.{publications, Publishes, RunCause}
 use Rattle.tez_am.specs.Run.{HasText}
 use Rattle.tez_am.specs.Say.{Said, answer_of, failure_text, status_of, text_of}
-use Rattle.tez_am.specs.Text.{spent_line, success_text, status_text}
+use Rattle.tez_am.specs.Answer.{TellsSinks}
+use Rattle.tez_am.specs.Text.{spent_line, status_text}
 use Rattle.tez_am.specs.Words.{dag_word}
 use Rattle.tez_am.proofs.Accepting.{refusal_from, at_word}
+use Rattle.tez_am.proofs.Publishing.{all_published}
 use Rattle.tez_am.specs.declared.failure.Failure.{Failure}
 use Rattle.tez_am.specs.declared.failure.Failure.TheVariants.{Because, Spent}
 use Rattle.tez_am.specs.declared.status.Device.TheVariants as device
 use Rattle.tez_am.specs.declared.status.Status.{Status}
-use Rattle.tez_am.specs.declared.status.Status.TheVariants.{Succeeded, Usage, DagRefused, InputMissing, InputTooLarge, InputFault, OtherForm, SinkExists, AttemptsSpent, DeviceFault, OutFault, NoMemory}
+use Rattle.tez_am.specs.declared.status.Status.TheVariants.{Succeeded, Usage, DagRefused, InputMissing, InputTooLarge, InputFault, SinkExists, AttemptsSpent, DeviceFault, OutFault, NoMemory}
 
 -- P of the answer, from P of all that it may be
 pub answered : (P : Status → Type 0) (status : Status) (text : List ℕ) (out : Writes) (answer : Status) → Said status text out answer
@@ -49,7 +54,6 @@ refused c same (DagRefused f) h wrote = record { cause = h; leaves = same; writi
 refused c same (InputMissing n) h wrote = record { cause = h; leaves = same; writing = (status_text (InputMissing n), refl, wrote) }
 refused c same (InputTooLarge n) h wrote = record { cause = h; leaves = same; writing = (status_text (InputTooLarge n), refl, wrote) }
 refused c same (InputFault n) h wrote = record { cause = h; leaves = same; writing = (status_text (InputFault n), refl, wrote) }
-refused c same OtherForm h wrote = record { cause = h; leaves = same; writing = (status_text OtherForm, refl, wrote) }
 refused c same NoMemory h wrote = record { cause = tt; leaves = inl (ap publications same); writing = inl wrote }
 refused c same _ h wrote = absurd h
 
@@ -59,7 +63,6 @@ refused_cause c (DagRefused f) h = h
 refused_cause c (InputMissing n) h = h
 refused_cause c (InputTooLarge n) h = h
 refused_cause c (InputFault n) h = h
-refused_cause c OtherForm h = h
 refused_cause c NoMemory h = tt
 refused_cause c _ h = absurd h
 
@@ -68,7 +71,6 @@ refused_text c (DagRefused f) other h = refl
 refused_text c (InputMissing n) other h = refl
 refused_text c (InputTooLarge n) other h = refl
 refused_text c (InputFault n) other h = refl
-refused_text c OtherForm other h = refl
 refused_text c NoMemory other h = absurd (other refl)
 refused_text c _ other h = absurd h
 
@@ -99,16 +101,16 @@ Ran c job = Told c.reads.files (λ m. IsAccepted c.words m (Ok job))
 ran_cause : (c : Call) (job : Job) → Ran c job → (s : Status) → RunCause job c.store s → Cause c s
 unfolding Cause
 ran_cause c job is (SinkExists n) h = ((λ m t. (job, is m t, h.1)), (λ s told m t. (job, is m t, h.2 s told)))
-ran_cause c job is (AttemptsSpent vertex task) h = (h.2, h.3, (λ m t. (job, is m t, h.4)), (λ s told m t. (job, is m t, h.1 s told)))
+ran_cause c job is (AttemptsSpent vertex task) h = ((λ m t. (job, is m t, h.2)), (λ s told m t. (job, is m t, h.1 s told)))
 ran_cause c job is (DeviceFault device.Store) h = (h.0, λ m t. (job, is m t, tt))
 ran_cause c job is NoMemory h = tt
 ran_cause c job is _ h = absurd h
 
 ran_may_publish : (c : Call) (job : Job) → Ran c job → (s : Status) → RunCause job c.store s → MayPublish c
-ran_may_publish c job is (SinkExists n) h = inl (ap publications h.0)
-ran_may_publish c job is (AttemptsSpent vertex task) h = inl (ap publications h.0)
-ran_may_publish c job is (DeviceFault device.Store) h = elim h.1 [ inl same ↦ inl same | inr done ↦ inr (λ m t. (job, is m t, done)) ]
-ran_may_publish c job is NoMemory h = inl h
+ran_may_publish c job is (SinkExists n) h = inl h.0
+ran_may_publish c job is (AttemptsSpent vertex task) h = inl h.0
+ran_may_publish c job is (DeviceFault device.Store) h = inr (λ m t. (job, is m t, h.1))
+ran_may_publish c job is NoMemory h = inr (λ m t. (job, is m t, h))
 ran_may_publish c job is _ h = absurd h
 
 ran_leaves : (c : Call) (job : Job) → Ran c job → (s : Status) → RunCause job c.store s → Leaves c s
@@ -116,7 +118,7 @@ unfolding Leaves
 ran_leaves c job is (SinkExists n) h = h.0
 ran_leaves c job is (AttemptsSpent vertex task) h = h.0
 ran_leaves c job is (DeviceFault device.Store) h = ran_may_publish c job is (DeviceFault device.Store) h
-ran_leaves c job is NoMemory h = inl h
+ran_leaves c job is NoMemory h = ran_may_publish c job is NoMemory h
 ran_leaves c job is _ h = absurd h
 
 -- the text of a failure, and what it is to have been written
@@ -147,15 +149,16 @@ failure_ends c job is f answer h text said =
     (λ other rose part. ends_in_fault c (status_of f) (failure_text f) may cause (failed_text c job is f text other h) rose part)
     (ends_short c may)
 
-success_ends : (c : Call) (job : Job) → Ran c job → (text : List ℕ) (answer : Status) → text ≡ success_text job → Publishes job c.store → Said Succeeded text c.out answer → Ends c answer
+success_ends : (c : Call) (job : Job) → Ran c job → (text : List ℕ) (answer : Status) → TellsSinks c.store.new job text → Publishes job c.store → Said Succeeded text c.out answer → Ends c answer
 unfolding Cause Leaves Writing
 success_ends c job is text answer tells done said =
     let for_job : ForJob c (λ j. Publishes j c.store) = λ m t. (job, is m t, done) in
-    let telling : ForJob c (λ j. text ≡ success_text j) = λ m t. (job, is m t, tells) in
+    let telling : ForJob c (λ j. TellsSinks c.store.new j text) = λ m t. (job, is m t, tells) in
+    let may : MayPublish c = inr (λ m t. (job, is m t, all_published job c.store done)) in
     answered (Ends c) Succeeded text c.out answer said
     (λ wrote. record { cause = for_job; leaves = for_job; writing = (text, telling, wrote) })
-    (λ other rose part. ends_in_fault c Succeeded text (inr for_job) for_job telling rose part)
-    (ends_short c (inr for_job))
+    (λ other rose part. ends_in_fault c Succeeded text may for_job telling rose part)
+    (ends_short c may)
 
 -- ---- by the words
 
@@ -167,7 +170,11 @@ pub refused_ends : (c : Call) (word : List ℕ) → dag_word c.words ≡ Some wo
 refused_ends c word is same s answer h said = refusal_ends c same s answer (by_words c word is s h) said
 
 pub run_ends : (c : Call) (word : List ℕ) (job : Job) → dag_word c.words ≡ Some word → Told c.reads.files (λ m. IsJob (Some word) m (Ok job)) → (ended : Result (List ℕ) Failure) (answer : Status)
-    → IfOk ended (λ text. text ≡ success_text job) → OnOk ended (Publishes job c.store) → IfErr ended (λ f. RunCause job c.store (status_of f)) → IfErr ended (HasText job)
+    → IfOk ended (TellsSinks c.store.new job) → OnOk ended (Publishes job c.store) → IfErr ended (λ f. RunCause job c.store (status_of f)) → IfErr ended (HasText job)
     → Said (answer_of ended) (text_of ended) c.out answer → Ends c answer
 run_ends c word job is at (Ok text) answer tells done cause names said = success_ends c job (λ m t. at_word IsJob (dag_word c.words) word m (Ok job) is (at m t)) text answer tells done said
 run_ends c word job is at (Err f) answer tells done cause names said = failure_ends c job (λ m t. at_word IsJob (dag_word c.words) word m (Ok job) is (at m t)) f answer cause names said
+
+pub run_traced : (words : List (List ℕ)) (files : Option Named) (word : List ℕ) (job : Job) (conf : ConfValues) (entries : List Entry) → dag_word words ≡ Some word → Told files (λ m. IsJob (Some word) m (Ok job)) → IsTrace job conf (reverse entries)
+    → Told files (λ m. (j : Job) × IsAccepted words m (Ok j) × ((c : ConfValues) × IsTrace j c (reverse entries)))
+run_traced words files word job conf entries is at trace = λ m t. (job, at_word IsJob (dag_word words) word m (Ok job) is (at m t), (conf, trace))

@@ -1,11 +1,12 @@
 pub mod Accepting
 pub mod Contents
+pub mod Driving
 pub mod Ending
+pub mod Lines
 pub mod Meanings
-pub mod OneVertex
 pub mod Publishing
+pub mod Ran
 pub mod RecordValues
 pub mod RowLemmas
 pub mod SourceLemmas
 pub mod Tools
-pub mod Working

@@ -9,7 +9,7 @@ use Rattle.tez_meaning.specs.Jobs.{Job, Files}
 use Rattle.tez_meaning.specs.Value.{bad, first_bad_vertex, sink_text, sink_texts, sinks, IsBadVertex, IsDefined}
 use Rattle.tez_meaning.specs.declared.fault.MeaningFault.{MeaningFault}
 use Rattle.tez_meaning.specs.declared.fault.MeaningFault.TheVariants.{Bad}
-use Rattle.tez_am.specs.Accept.{Planned, AfterDag, and_then, any_job}
+use Rattle.tez_am.specs.Accept.{Planned, AfterDag, and_then, run_job}
 use Rattle.tez_am.specs.Call.{Reads}
 use Rattle.tez_am.specs.Cause.{Refusal}
 use Rattle.tez_am.specs.Mean.{Means, text_part}
@@ -55,25 +55,25 @@ meant_bad job fault v s is due said =
 
 -- ---- of a DAG file
 
-refused_at : (word : Option (List ℕ)) (m : Named) (r : Status) → AfterDag any_job word m (Err r) → AfterDag meaning_of word m (Err r)
+refused_at : (word : Option (List ℕ)) (m : Named) (r : Status) → AfterDag run_job word m (Err r) → AfterDag meaning_of word m (Err r)
 refused_at word m r h = record { dag = h.dag; is = h.is; rest = next h.dag h.rest } where
-  next : (dag : Result Planned Status) → Err r ≡ and_then dag (any_job m) → Err r ≡ and_then dag (meaning_of m)
+  next : (dag : Result Planned Status) → Err r ≡ and_then dag (run_job m) → Err r ≡ and_then dag (meaning_of m)
   next (Ok said) is = ap (λ x. and_then x meant) is
   next (Err s) is = let same : r ≡ s = cc in ap Err same
 
-job_at : (word : Option (List ℕ)) (m : Named) (job : Job) (answer : Result (List ℕ) Status) → AfterDag any_job word m (Ok job) → meant job ≡ answer → AfterDag meaning_of word m answer
+job_at : (word : Option (List ℕ)) (m : Named) (job : Job) (answer : Result (List ℕ) Status) → AfterDag run_job word m (Ok job) → meant job ≡ answer → AfterDag meaning_of word m answer
 job_at word m job answer h due = record { dag = h.dag; is = h.is; rest = next h.dag h.rest } where
-  next : (dag : Result Planned Status) → Ok job ≡ and_then dag (any_job m) → answer ≡ and_then dag (meaning_of m)
+  next : (dag : Result Planned Status) → Ok job ≡ and_then dag (run_job m) → answer ≡ and_then dag (meaning_of m)
   next (Ok said) is = sym due ∙ ap (λ x. and_then x meant) is
   next (Err s) is = cc
 
-pub unread : (word : Option (List ℕ)) (reads : Reads) (s : Status) → Refusal (AfterDag any_job word) reads s → ToolRefusal (AfterDag meaning_of word) reads s
-unread word reads s h = inl (refusal_from (AfterDag any_job word) (AfterDag meaning_of word) reads s (refused_at word) h)
+pub unread : (word : Option (List ℕ)) (reads : Reads) (s : Status) → Refusal (AfterDag run_job word) reads s → ToolRefusal (AfterDag meaning_of word) reads s
+unread word reads s h = inl (refusal_from (AfterDag run_job word) (AfterDag meaning_of word) reads s (refused_at word) h)
 
-pub means : (word : Option (List ℕ)) (files : Option Named) (job : Job) (text : List ℕ) → IsValid job.plan → IsDefined job → text ≡ meaning_text job → meant job ≡ Ok text → Told files (λ m. AfterDag any_job word m (Ok job)) → Means word files text
+pub means : (word : Option (List ℕ)) (files : Option Named) (job : Job) (text : List ℕ) → IsValid job.plan → IsDefined job → text ≡ meaning_text job → meant job ≡ Ok text → Told files (λ m. AfterDag run_job word m (Ok job)) → Means word files text
 means word files job text valid defined is due told = record { job = job; valid = valid; defined = defined; is = is; due = λ m t. job_at word m job (Ok text) (told m t) due }
 
-pub undefined_at : (word : Option (List ℕ)) (reads : Reads) (job : Job) (s : Status) → Told reads.files (λ m. AfterDag any_job word m (Ok job)) → Undefined job s → ToolRefusal (AfterDag meaning_of word) reads s
+pub undefined_at : (word : Option (List ℕ)) (reads : Reads) (job : Job) (s : Status) → Told reads.files (λ m. AfterDag run_job word m (Ok job)) → Undefined job s → ToolRefusal (AfterDag meaning_of word) reads s
 undefined_at word reads job s told h = elim h [
   | inl short ↦ inl (subst (Refusal (AfterDag meaning_of word) reads) (sym short) tt)
   | inr bad_is ↦ inr (bad_is.0, bad_is.1, λ m t. job_at word m job (Err s) (told m t) bad_is.2)

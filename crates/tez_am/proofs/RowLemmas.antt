@@ -1,20 +1,20 @@
 -- An answer whose cause holds is the one that is due.
-use Rattle.std.proofs.Common.{◌≡◌, ℕ, Bool, true, false, List, Option, Some, None, Ok, Err, refl, inl, inr, ◌∙◌, sym, ap, ap₂}
+use Rattle.std.proofs.Common.{◌≡◌, ℕ, Bool, true, List, Option, Some, None, Ok, Err, refl, inl, inr, ◌∙◌, sym, ap}
 use Rattle.tez_lists.proofs.Cases.{both}
 use Rattle.tez_ports.specs.Content.{Named, Store}
 use Rattle.tez_plan.specs.Dag.{vertex}
 use Rattle.tez_meaning.specs.Jobs.{Job}
-use Rattle.tez_meaning.specs.Value.{bad}
+use Rattle.tez_meaning.specs.Value.{bad, IsDefined}
 use Rattle.tez_am.specs.Accept.{IsAccepted}
 use Rattle.tez_am.specs.Call.{Call}
 use Rattle.tez_am.specs.Cause.{Cause}
 use Rattle.tez_am.specs.Publish.{first_taken}
-use Rattle.tez_am.specs.Rows.{IsAnswerOfReads, IsAnswerOfRun, KeepsRows}
+use Rattle.tez_am.specs.Rows.{IsAnswerOfReads, IsAnswerOfRun, IsAnswerOfSpent, KeepsRows}
 use Rattle.tez_am.specs.Words.{dag_word}
 use Rattle.tez_am.proofs.Accepting.{no_dag, one_job}
 use Rattle.tez_am.specs.declared.status.Device.TheVariants as device
 use Rattle.tez_am.specs.declared.status.Status.{Status}
-use Rattle.tez_am.specs.declared.status.Status.TheVariants.{Succeeded, Usage, DagRefused, InputMissing, InputTooLarge, InputFault, OtherForm, SinkExists, AttemptsSpent, DeviceFault, MeaningUndefined, OutFault, NoMemory}
+use Rattle.tez_am.specs.declared.status.Status.TheVariants.{Succeeded, Usage, DagRefused, InputMissing, InputTooLarge, InputFault, SinkExists, AttemptsSpent, DeviceFault, MeaningUndefined, OutFault, NoMemory}
 
 no_command : (words : List (List ℕ)) (m : Named) → dag_word words ≡ None → IsAccepted words m (Err Usage)
 no_command words m none = record { dag = Err Usage; is = no_dag (dag_word words) m none; rest = refl }
@@ -33,8 +33,8 @@ taken_by : (words : List (List ℕ)) (m : Named) (publications : Named) (a b : J
     → first_taken a.plan publications ≡ x → first_taken b.plan publications ≡ y → x ≡ y
 taken_by words m publications a b x y h k is at = sym is ∙ ap (λ j. first_taken j.plan publications) (same_job words m a b h k) ∙ at
 
-bad_by : (words : List (List ℕ)) (m : Named) (a b : Job) (x y : Bool) → IsAccepted words m (Ok a) → IsAccepted words m (Ok b) → bad a 0 ≡ x → bad b 0 ≡ y → x ≡ y
-bad_by words m a b x y h k is at = sym is ∙ ap (λ j. bad j 0) (same_job words m a b h k) ∙ at
+bad_by : (words : List (List ℕ)) (m : Named) (a b : Job) (v : ℕ) (x y : Bool) → IsAccepted words m (Ok a) → IsAccepted words m (Ok b) → bad a v ≡ x → bad b v ≡ y → x ≡ y
+bad_by words m a b v x y h k is at = sym is ∙ ap (λ j. bad j v) (same_job words m a b h k) ∙ at
 
 row_refused : (c : Call) (m : Named) → c.reads.files ≡ Some m → (refusal : Status) → IsAccepted c.words m (Err refusal) → (answer : Status) → Cause c answer → IsAnswerOfReads refusal answer
 unfolding Cause
@@ -44,9 +44,8 @@ row_refused c m t refusal due (DagRefused f) h = inl (inl (one_refusal c.words _
 row_refused c m t refusal due (InputMissing n) h = inl (inl (one_refusal c.words _ _ _ (h m t) due))
 row_refused c m t refusal due (InputTooLarge n) h = inl (inl (one_refusal c.words _ _ _ (h m t) due))
 row_refused c m t refusal due (InputFault n) h = inr (n, refl)
-row_refused c m t refusal due OtherForm h = inl (inl (one_refusal c.words _ _ _ (h m t) due))
 row_refused c m t refusal due (SinkExists n) h = let j = h.0 m t in absurd (not_both c.words _ _ _ j.1 due)
-row_refused c m t refusal due (AttemptsSpent v n) h = let j = h.2 m t in absurd (not_both c.words _ _ _ j.1 due)
+row_refused c m t refusal due (AttemptsSpent v n) h = let j = h.0 m t in absurd (not_both c.words _ _ _ j.1 due)
 row_refused c m t refusal due (DeviceFault device.Store) h = let j = h.1 m t in absurd (not_both c.words _ _ _ j.1 due)
 row_refused c m t refusal due (DeviceFault device.Disk) h = absurd h
 row_refused c m t refusal due (MeaningUndefined n) h = absurd h
@@ -62,34 +61,32 @@ row_exists c m t job is s told name there (DagRefused f) h = absurd (not_both c.
 row_exists c m t job is s told name there (InputMissing n) h = absurd (not_both c.words _ _ _ is (h m t))
 row_exists c m t job is s told name there (InputTooLarge n) h = absurd (not_both c.words _ _ _ is (h m t))
 row_exists c m t job is s told name there (InputFault n) h = inl (inr (n, refl))
-row_exists c m t job is s told name there OtherForm h = absurd (not_both c.words _ _ _ is (h m t))
 row_exists c m t job is s told name there (SinkExists n) h = let j = h.1 s told m t in let e = taken_by c.words _ s.publications j.0 job (Some n) (Some name) j.1 is j.2 there in let same : n ≡ name = cc in inl (inl (inl (ap SinkExists same)))
-row_exists c m t job is s told name there (AttemptsSpent v n) h = let j = h.3 s told m t in let e = taken_by c.words _ s.publications job j.0 (Some name) None is j.1 there j.2 in cc
+row_exists c m t job is s told name there (AttemptsSpent v n) h = let j = h.1 s told m t in let e = taken_by c.words _ s.publications job j.0 (Some name) None is j.1 there j.2 in cc
 row_exists c m t job is s told name there (DeviceFault device.Store) h = inr refl
 row_exists c m t job is s told name there (DeviceFault device.Disk) h = absurd h
 row_exists c m t job is s told name there (MeaningUndefined n) h = absurd h
 row_exists c m t job is s told name there OutFault h = inl (inl (inr (inl refl)))
 row_exists c m t job is s told name there NoMemory h = inl (inl (inr (inr refl)))
 
-row_spent : (c : Call) (m : Named) → c.reads.files ≡ Some m → (job : Job) → IsAccepted c.words m (Ok job) → (s : Store) → c.store.old ≡ Some s → first_taken job.plan s.publications ≡ None → bad job 0 ≡ true
-    → (answer : Status) → Cause c answer → IsAnswerOfRun (AttemptsSpent (vertex 0) 0) answer
+row_spent : (c : Call) (m : Named) → c.reads.files ≡ Some m → (job : Job) → IsAccepted c.words m (Ok job) → (s : Store) → c.store.old ≡ Some s → first_taken job.plan s.publications ≡ None → (v : ℕ) → bad job v ≡ true
+    → (answer : Status) → Cause c answer → IsAnswerOfSpent job answer
 unfolding Cause
-row_spent c m t job is s told free worse Succeeded h = let j = h m t in absurd (both (sym (bad_by c.words _ job j.0 true (bad j.0 0) is j.1 worse refl)) (j.2.defined 0))
-row_spent c m t job is s told free worse Usage h = absurd (not_both c.words _ _ _ is (no_command c.words m h))
-row_spent c m t job is s told free worse (DagRefused f) h = absurd (not_both c.words _ _ _ is (h m t))
-row_spent c m t job is s told free worse (InputMissing n) h = absurd (not_both c.words _ _ _ is (h m t))
-row_spent c m t job is s told free worse (InputTooLarge n) h = absurd (not_both c.words _ _ _ is (h m t))
-row_spent c m t job is s told free worse (InputFault n) h = inl (inr (n, refl))
-row_spent c m t job is s told free worse OtherForm h = absurd (not_both c.words _ _ _ is (h m t))
-row_spent c m t job is s told free worse (SinkExists n) h = let j = h.1 s told m t in let e = taken_by c.words _ s.publications j.0 job (Some n) None j.1 is j.2 free in cc
-row_spent c m t job is s told free worse (AttemptsSpent v n) h = inl (inl (inl (ap₂ (λ a b. AttemptsSpent a b) (ap vertex h.0) h.1)))
-row_spent c m t job is s told free worse (DeviceFault device.Store) h = inr refl
-row_spent c m t job is s told free worse (DeviceFault device.Disk) h = absurd h
-row_spent c m t job is s told free worse (MeaningUndefined n) h = absurd h
-row_spent c m t job is s told free worse OutFault h = inl (inl (inr (inl refl)))
-row_spent c m t job is s told free worse NoMemory h = inl (inl (inr (inr refl)))
+row_spent c m t job is s told free v worse Succeeded h = let j = h m t in absurd (both (sym (bad_by c.words _ job j.0 v true (bad j.0 v) is j.1 worse refl)) (j.2.defined v))
+row_spent c m t job is s told free v worse Usage h = absurd (not_both c.words _ _ _ is (no_command c.words m h))
+row_spent c m t job is s told free v worse (DagRefused f) h = absurd (not_both c.words _ _ _ is (h m t))
+row_spent c m t job is s told free v worse (InputMissing n) h = absurd (not_both c.words _ _ _ is (h m t))
+row_spent c m t job is s told free v worse (InputTooLarge n) h = absurd (not_both c.words _ _ _ is (h m t))
+row_spent c m t job is s told free v worse (InputFault n) h = (vertex v, 0, worse, inl (inr (n, refl)))
+row_spent c m t job is s told free v worse (SinkExists n) h = let j = h.1 s told m t in let e = taken_by c.words _ s.publications j.0 job (Some n) None j.1 is j.2 free in cc
+row_spent c m t job is s told free v worse (AttemptsSpent w n) h = let j = h.0 m t in (w, n, ap (λ x. bad x w.0) (same_job c.words _ job j.0 is j.1) ∙ j.2, inl (inl (inl refl)))
+row_spent c m t job is s told free v worse (DeviceFault device.Store) h = (vertex v, 0, worse, inr refl)
+row_spent c m t job is s told free v worse (DeviceFault device.Disk) h = absurd h
+row_spent c m t job is s told free v worse (MeaningUndefined n) h = absurd h
+row_spent c m t job is s told free v worse OutFault h = (vertex v, 0, worse, inl (inl (inr (inl refl))))
+row_spent c m t job is s told free v worse NoMemory h = (vertex v, 0, worse, inl (inl (inr (inr refl))))
 
-row_succeeds : (c : Call) (m : Named) → c.reads.files ≡ Some m → (job : Job) → IsAccepted c.words m (Ok job) → (s : Store) → c.store.old ≡ Some s → first_taken job.plan s.publications ≡ None → bad job 0 ≡ false
+row_succeeds : (c : Call) (m : Named) → c.reads.files ≡ Some m → (job : Job) → IsAccepted c.words m (Ok job) → (s : Store) → c.store.old ≡ Some s → first_taken job.plan s.publications ≡ None → IsDefined job
     → (answer : Status) → Cause c answer → IsAnswerOfRun Succeeded answer
 unfolding Cause
 row_succeeds c m t job is s told free good Succeeded h = inl (inl (inl refl))
@@ -98,9 +95,8 @@ row_succeeds c m t job is s told free good (DagRefused f) h = absurd (not_both c
 row_succeeds c m t job is s told free good (InputMissing n) h = absurd (not_both c.words _ _ _ is (h m t))
 row_succeeds c m t job is s told free good (InputTooLarge n) h = absurd (not_both c.words _ _ _ is (h m t))
 row_succeeds c m t job is s told free good (InputFault n) h = inl (inr (n, refl))
-row_succeeds c m t job is s told free good OtherForm h = absurd (not_both c.words _ _ _ is (h m t))
 row_succeeds c m t job is s told free good (SinkExists n) h = let j = h.1 s told m t in let e = taken_by c.words _ s.publications j.0 job (Some n) None j.1 is j.2 free in cc
-row_succeeds c m t job is s told free good (AttemptsSpent v n) h = let j = h.2 m t in let e = bad_by c.words _ j.0 job true false j.1 is j.2 good in cc
+row_succeeds c m t job is s told free good (AttemptsSpent v n) h = let j = h.0 m t in absurd (both (sym (bad_by c.words _ j.0 job v.0 true (bad job v.0) j.1 is j.2 refl)) (good v.0))
 row_succeeds c m t job is s told free good (DeviceFault device.Store) h = inr refl
 row_succeeds c m t job is s told free good (DeviceFault device.Disk) h = absurd h
 row_succeeds c m t job is s told free good (MeaningUndefined n) h = absurd h
@@ -111,6 +107,6 @@ pub rows_from_cause : (c : Call) (answer : Status) → Cause c answer → (m : N
 rows_from_cause c answer h m t = record {
   refused = λ refusal due. row_refused c m t refusal due answer h;
   exists = λ job is s told name there. row_exists c m t job is s told name there answer h;
-  spent = λ job is s told free worse. row_spent c m t job is s told free worse answer h;
+  spent = λ job is s told free v worse. row_spent c m t job is s told free v worse answer h;
   succeeds = λ job is s told free good. row_succeeds c m t job is s told free good answer h;
 }

@@ -1,5 +1,5 @@
 -- How a call of a tool ends, from what its check gave and from what was said.
-use Rattle.std.proofs.Common.{◌≡◌, ◌≢◌, ◌⊎◌, ℕ, List, Option, Some, None, Result, Ok, Err, IfOk, IfErr, refl, inl, inr, ◌∙◌, sym, ap, subst}
+use Rattle.std.proofs.Common.{◌≡◌, ◌⊎◌, ℕ, List, Option, Some, None, Result, Ok, Err, IfOk, IfErr, refl, inl, inr, ◌∙◌, sym, ap, subst}
 use Rattle.tez_ports.specs.Content.{Named, Told}
 use Rattle.tez_am.specs.Accept.{AfterDag, IsDag}
 use Rattle.tez_am.specs.Call.{Writes, Wrote}
@@ -15,7 +15,7 @@ use Rattle.tez_am.proofs.Ending.{answered}
 use Rattle.tez_am.specs.declared.failure.Failure.{Failure}
 use Rattle.tez_am.specs.declared.failure.Failure.TheVariants.{Because}
 use Rattle.tez_am.specs.declared.status.Status.{Status}
-use Rattle.tez_am.specs.declared.status.Status.TheVariants.{Succeeded, Usage, DagRefused, InputMissing, InputTooLarge, InputFault, OtherForm, SinkExists, AttemptsSpent, DeviceFault, MeaningUndefined, OutFault, NoMemory}
+use Rattle.tez_am.specs.declared.status.Status.TheVariants.{Succeeded, Usage, DagRefused, InputMissing, InputTooLarge, InputFault, SinkExists, AttemptsSpent, DeviceFault, MeaningUndefined, OutFault, NoMemory}
 
 -- ---- what is due is one
 
@@ -53,34 +53,32 @@ pub record ToolEnds (c : ToolCall) (s : Status) : Type 0 where
 abbrev Due : ToolCall → Status → Type 0
 Due c s = Refusal (IsToolDue c.words) c.reads s ⊎ ((name : List ℕ) × (s ≡ MeaningUndefined name) × IsRefused (IsToolDue c.words) c.reads s)
 
-refused_cause : (c : ToolCall) (s : Status) → s ≢ OtherForm → Due c s → ToolCause c s
+refused_cause : (c : ToolCall) (s : Status) → Due c s → ToolCause c s
 unfolding ToolCause
-refused_cause c (DagRefused f) other (inl h) = h
-refused_cause c (InputMissing n) other (inl h) = h
-refused_cause c (InputTooLarge n) other (inl h) = h
-refused_cause c (InputFault n) other (inl h) = h
-refused_cause c OtherForm other (inl h) = absurd (other refl)
-refused_cause c NoMemory other (inl h) = tt
-refused_cause c _ other (inl h) = absurd h
-refused_cause c s other (inr h) = subst (ToolCause c) (sym h.1) (subst (IsRefused (IsToolDue c.words) c.reads) h.1 h.2)
+refused_cause c (DagRefused f) (inl h) = h
+refused_cause c (InputMissing n) (inl h) = h
+refused_cause c (InputTooLarge n) (inl h) = h
+refused_cause c (InputFault n) (inl h) = h
+refused_cause c NoMemory (inl h) = tt
+refused_cause c _ (inl h) = absurd h
+refused_cause c s (inr h) = subst (ToolCause c) (sym h.1) (subst (IsRefused (IsToolDue c.words) c.reads) h.1 h.2)
 
-refused_leaves : (c : ToolCall) (s : Status) → s ≢ OtherForm → Due c s → Wrote (status_text s) c.out → ToolLeaves c s
+refused_leaves : (c : ToolCall) (s : Status) → Due c s → Wrote (status_text s) c.out → ToolLeaves c s
 unfolding ToolLeaves
-refused_leaves c (DagRefused f) other (inl h) wrote = wrote
-refused_leaves c (InputMissing n) other (inl h) wrote = wrote
-refused_leaves c (InputTooLarge n) other (inl h) wrote = wrote
-refused_leaves c (InputFault n) other (inl h) wrote = wrote
-refused_leaves c OtherForm other (inl h) wrote = absurd (other refl)
-refused_leaves c NoMemory other (inl h) wrote = inl wrote
-refused_leaves c _ other (inl h) wrote = absurd h
-refused_leaves c s other (inr h) wrote = subst (ToolLeaves c) (sym h.1) (subst (λ r. Wrote (status_text r) c.out) h.1 wrote)
+refused_leaves c (DagRefused f) (inl h) wrote = wrote
+refused_leaves c (InputMissing n) (inl h) wrote = wrote
+refused_leaves c (InputTooLarge n) (inl h) wrote = wrote
+refused_leaves c (InputFault n) (inl h) wrote = wrote
+refused_leaves c NoMemory (inl h) wrote = inl wrote
+refused_leaves c _ (inl h) wrote = absurd h
+refused_leaves c s (inr h) wrote = subst (ToolLeaves c) (sym h.1) (subst (λ r. Wrote (status_text r) c.out) h.1 wrote)
 
-refusal_ends : (c : ToolCall) (s answer : Status) → s ≢ OtherForm → Due c s → Said s (status_text s) c.out answer → ToolEnds c answer
+refusal_ends : (c : ToolCall) (s answer : Status) → Due c s → Said s (status_text s) c.out answer → ToolEnds c answer
 unfolding ToolCause ToolLeaves
-refusal_ends c s answer form h said =
-    let cause = refused_cause c s form h in
+refusal_ends c s answer h said =
+    let cause = refused_cause c s h in
     answered (ToolEnds c) s (status_text s) c.out answer said
-    (λ wrote. record { cause = cause; leaves = refused_leaves c s form h wrote })
+    (λ wrote. record { cause = cause; leaves = refused_leaves c s h wrote })
     (λ other rose part. record { cause = rose; leaves = inr (s, other, cause, part) })
     (λ short. record { cause = tt; leaves = short })
 
@@ -112,8 +110,8 @@ check_ends c word text is h answer said = text_ends c text answer (inl (h.said, 
 check_refused : (c : ToolCall) (word : List ℕ) → check_word c.words ≡ Some word → (s : Status) → Refusal (IsDag (Some word)) c.reads s → Due c s
 check_refused c word is s h = inl (refusal_from (IsDag (Some word)) (IsToolDue c.words) c.reads s (λ m r due. check_due c.words word m (Err r) is (record { dag = Err r; is = due; rest = refl })) h)
 
-pub check_refusal_ends : (c : ToolCall) (word : List ℕ) → check_word c.words ≡ Some word → (s answer : Status) → s ≢ OtherForm → Refusal (IsDag (Some word)) c.reads s → Said s (status_text s) c.out answer → ToolEnds c answer
-check_refusal_ends c word is s answer form h said = refusal_ends c s answer form (check_refused c word is s h) said
+pub check_refusal_ends : (c : ToolCall) (word : List ℕ) → check_word c.words ≡ Some word → (s answer : Status) → Refusal (IsDag (Some word)) c.reads s → Said s (status_text s) c.out answer → ToolEnds c answer
+check_refusal_ends c word is s answer h said = refusal_ends c s answer (check_refused c word is s h) said
 
 -- ---- a meaning
 
@@ -124,9 +122,9 @@ meaning_refused : (c : ToolCall) (word : List ℕ) → check_word c.words ≡ No
 meaning_refused c word none is s (inl h) = inl (refusal_from (AfterDag meaning_of (Some word)) (IsToolDue c.words) c.reads s (λ m r due. meaning_due c.words word m (Err r) none is due) h)
 meaning_refused c word none is s (inr h) = inr (h.0, h.1, λ m t. meaning_due c.words word m (Err s) none is (h.2 m t))
 
-pub meaning_refusal_ends : (c : ToolCall) (word : List ℕ) → check_word c.words ≡ None → meaning_word c.words ≡ Some word → (s answer : Status) → s ≢ OtherForm → ToolRefusal (AfterDag meaning_of (Some word)) c.reads s
+pub meaning_refusal_ends : (c : ToolCall) (word : List ℕ) → check_word c.words ≡ None → meaning_word c.words ≡ Some word → (s answer : Status) → ToolRefusal (AfterDag meaning_of (Some word)) c.reads s
     → Said s (status_text s) c.out answer → ToolEnds c answer
-meaning_refusal_ends c word none is s answer form h said = refusal_ends c s answer form (meaning_refused c word none is s h) said
+meaning_refusal_ends c word none is s answer h said = refusal_ends c s answer (meaning_refused c word none is s h) said
 
 -- ---- each by what it gave
 
@@ -135,16 +133,16 @@ said_of : (out : Writes) (answer : Status) (ended due : Result (List ℕ) Failur
 said_of out answer ended due is said = subst (λ e. Said (answer_of e) (text_of e) out answer) is said
 
 pub checked_ends : (c : ToolCall) (word : List ℕ) (gave : Result (List ℕ) Status) (ended : Result (List ℕ) Failure) (answer : Status) → check_word c.words ≡ Some word
-    → IfOk gave (Checks (Some word) c.reads.files) → IfErr gave (λ s. s ≢ OtherForm) → IfErr gave (Refusal (IsDag (Some word)) c.reads)
+    → IfOk gave (Checks (Some word) c.reads.files) → IfErr gave (Refusal (IsDag (Some word)) c.reads)
     → IfOk gave (λ text. ended ≡ Ok text) → IfErr gave (λ s. ended ≡ Err (Because s)) → Said (answer_of ended) (text_of ended) c.out answer → ToolEnds c answer
-checked_ends c word (Ok text) ended answer is checks form refusal ok err said = check_ends c word text is checks answer (said_of c.out answer ended (Ok text) ok said)
-checked_ends c word (Err s) ended answer is checks form refusal ok err said = check_refusal_ends c word is s answer form refusal (said_of c.out answer ended (Err (Because s)) err said)
+checked_ends c word (Ok text) ended answer is checks refusal ok err said = check_ends c word text is checks answer (said_of c.out answer ended (Ok text) ok said)
+checked_ends c word (Err s) ended answer is checks refusal ok err said = check_refusal_ends c word is s answer refusal (said_of c.out answer ended (Err (Because s)) err said)
 
 pub meant_ends : (c : ToolCall) (word : List ℕ) (gave : Result (List ℕ) Status) (ended : Result (List ℕ) Failure) (answer : Status) → check_word c.words ≡ None → meaning_word c.words ≡ Some word
-    → IfOk gave (Means (Some word) c.reads.files) → IfErr gave (λ s. s ≢ OtherForm) → IfErr gave (ToolRefusal (AfterDag meaning_of (Some word)) c.reads)
+    → IfOk gave (Means (Some word) c.reads.files) → IfErr gave (ToolRefusal (AfterDag meaning_of (Some word)) c.reads)
     → IfOk gave (λ text. ended ≡ Ok text) → IfErr gave (λ s. ended ≡ Err (Because s)) → Said (answer_of ended) (text_of ended) c.out answer → ToolEnds c answer
-meant_ends c word (Ok text) ended answer none is means form refusal ok err said = meaning_ends c word text none is means answer (said_of c.out answer ended (Ok text) ok said)
-meant_ends c word (Err s) ended answer none is means form refusal ok err said = meaning_refusal_ends c word none is s answer form refusal (said_of c.out answer ended (Err (Because s)) err said)
+meant_ends c word (Ok text) ended answer none is means refusal ok err said = meaning_ends c word text none is means answer (said_of c.out answer ended (Ok text) ok said)
+meant_ends c word (Err s) ended answer none is means refusal ok err said = meaning_refusal_ends c word none is s answer refusal (said_of c.out answer ended (Err (Because s)) err said)
 
 -- ---- the rows
 
@@ -162,7 +160,6 @@ row_refused c m t refusal due (DagRefused f) h = inl (inl (one_refusal c.words _
 row_refused c m t refusal due (InputMissing n) h = inl (inl (one_refusal c.words _ _ _ (h m t) due))
 row_refused c m t refusal due (InputTooLarge n) h = inl (inl (one_refusal c.words _ _ _ (h m t) due))
 row_refused c m t refusal due (InputFault n) h = inr (n, refl)
-row_refused c m t refusal due OtherForm h = absurd h
 row_refused c m t refusal due (SinkExists n) h = absurd h
 row_refused c m t refusal due (AttemptsSpent v n) h = absurd h
 row_refused c m t refusal due (DeviceFault d) h = absurd h
@@ -178,7 +175,6 @@ row_succeeds c m t text is (DagRefused f) h = absurd (not_both c.words _ _ _ is 
 row_succeeds c m t text is (InputMissing n) h = absurd (not_both c.words _ _ _ is (h m t))
 row_succeeds c m t text is (InputTooLarge n) h = absurd (not_both c.words _ _ _ is (h m t))
 row_succeeds c m t text is (InputFault n) h = inr (n, refl)
-row_succeeds c m t text is OtherForm h = absurd h
 row_succeeds c m t text is (SinkExists n) h = absurd h
 row_succeeds c m t text is (AttemptsSpent v n) h = absurd h
 row_succeeds c m t text is (DeviceFault d) h = absurd h

@@ -2,20 +2,20 @@
 --     content name limit files      the bytes of an input
 --     IsDag word files answer       what the DAG file of this name says
 --     with_sources files plan       the plan with the bytes of its sources
---     IsAccepted words files answer     the job of the words of a run, whose plan has one vertex with one task
-use Rattle.std.specs.Prelude.{◌≡◌, ℕ, ◌-◌, ◌&&◌, ◌==◌, Bool, not, List, [], ◌∷◌, length, nat_le, if◌then◌else◌, Option, Result, Ok, Err}
+--     IsAccepted words files answer     the job of the words of a run
+use Rattle.std.specs.Prelude.{◌≡◌, ℕ, ◌-◌, not, List, [], ◌∷◌, length, nat_le, if◌then◌else◌, Option, Result, Ok, Err}
 use Rattle.std.specs.List.{filter, flat_map}
 use Rattle.std.specs.Option.{ok_or, option_map_or}
 use Rattle.std.specs.Str.{bytes_eq}
 use Rattle.tez_conf.specs.declared.values.ConfValues.{ConfValues}
 use Rattle.tez_plan.specs.declared.parts.VertexSpec.{VertexSpec}
-use Rattle.tez_plan.specs.Dag.{Dag, tasks_of}
+use Rattle.tez_plan.specs.Dag.{Dag}
 use Rattle.tez_dag_json.specs.Due.{IsDue}
 use Rattle.tez_ports.specs.Content.{Named, bytes_of}
 use Rattle.tez_meaning.specs.Jobs.{Job, job_of}
 use Rattle.tez_am.specs.Words.{dag_word}
 use Rattle.tez_am.specs.declared.status.Status.{Status}
-use Rattle.tez_am.specs.declared.status.Status.TheVariants.{Usage, DagRefused, InputMissing, InputTooLarge, OtherForm}
+use Rattle.tez_am.specs.declared.status.Status.TheVariants.{Usage, DagRefused, InputMissing, InputTooLarge}
 
 -- bytes of a DAG file
 abbrev pub dag_limit : ℕ
@@ -90,23 +90,12 @@ with_sources files plan = and_then (contents files source_limit (source_names pl
 
 -- ---- a run
 
--- one vertex with one task
-abbrev pub is_one_task : Dag → Bool
-is_one_task p = length p.vertices == 1 && tasks_of p 0 == 1
-
-abbrev pub runnable : Dag → Result Dag Status
-runnable plan = if is_one_task plan then Ok plan else Err OtherForm
-
+-- the job of what a DAG file says
 abbrev pub run_job : Named → Planned → Result Job Status
-run_job files said = and_then (runnable said.0) (with_sources files)
+run_job files said = with_sources files said.0
 
 abbrev pub IsJob : Option (List ℕ) → Named → Result Job Status → Type 0
 IsJob word files answer = AfterDag run_job word files answer
 
 abbrev pub IsAccepted : List (List ℕ) → Named → Result Job Status → Type 0
 IsAccepted words files answer = IsJob (dag_word words) files answer
-
--- ---- a meaning
-
-abbrev pub any_job : Named → Planned → Result Job Status
-any_job files said = with_sources files said.0

@@ -1,17 +1,21 @@
 -- When each answer comes, and what it leaves.
-use Rattle.std.specs.Prelude.{◌≡◌, ◌⊎◌, ⊤, ℕ, true, List, codes, Some, None, Result, Ok, Err}
+use Rattle.std.specs.Prelude.{◌≡◌, ◌⊎◌, ⊤, ℕ, true, List, reverse, codes, Some, None, Result, Ok, Err}
 use Rattle.tez_ports.specs.Causes.{Rose}
 use Rattle.tez_ports.specs.Content.{Named, Told}
+use Rattle.tez_conf.specs.declared.values.ConfValues.{ConfValues}
+use Rattle.tez_events.specs.declared.Entry.{Entry}
 use Rattle.tez_meaning.specs.Jobs.{Job}
 use Rattle.tez_meaning.specs.Value.{bad}
+use Rattle.tez_world.specs.Lawful.{IsTrace}
 use Rattle.tez_am.specs.Accept.{IsAccepted}
 use Rattle.tez_am.specs.Call.{Reads, Writes, Call, StoreFailed, Wrote, WrotePart}
-use Rattle.tez_am.specs.Publish.{SamePublications, Publishes, first_taken, is_sink}
-use Rattle.tez_am.specs.Text.{success_text, spent_text, status_text}
+use Rattle.tez_am.specs.Publish.{SamePublications, Publishes, PublishesPart, first_taken, is_sink}
+use Rattle.tez_am.specs.Answer.{TellsSinks}
+use Rattle.tez_am.specs.Text.{spent_text, status_text}
 use Rattle.tez_am.specs.Words.{dag_word}
 use Rattle.tez_am.specs.declared.status.Device.TheVariants as device
 use Rattle.tez_am.specs.declared.status.Status.{Status}
-use Rattle.tez_am.specs.declared.status.Status.TheVariants.{Succeeded, Usage, DagRefused, InputMissing, InputTooLarge, InputFault, OtherForm, SinkExists, AttemptsSpent, DeviceFault, MeaningUndefined, OutFault, NoMemory}
+use Rattle.tez_am.specs.declared.status.Status.TheVariants.{Succeeded, Usage, DagRefused, InputMissing, InputTooLarge, InputFault, SinkExists, AttemptsSpent, DeviceFault, MeaningUndefined, OutFault, NoMemory}
 
 -- a check of the input files is to end in this refusal
 abbrev pub IsRefused : {A : Type 0} → (Named → Result A Status → Type 0) → Reads → Status → Type 0
@@ -27,7 +31,6 @@ Refusal check reads (DagRefused fault) = IsRefused check reads (DagRefused fault
 Refusal check reads (InputMissing name) = IsRefused check reads (InputMissing name)
 Refusal check reads (InputTooLarge name) = IsRefused check reads (InputTooLarge name)
 Refusal check reads (InputFault name) = ReadFailed reads name
-Refusal check reads OtherForm = IsRefused check reads OtherForm
 Refusal check reads NoMemory = ⊤
 Refusal check reads _ = ⊥
 
@@ -47,18 +50,17 @@ Cause c (DagRefused fault) = IsRefused (IsAccepted c.words) c.reads (DagRefused 
 Cause c (InputMissing name) = IsRefused (IsAccepted c.words) c.reads (InputMissing name)
 Cause c (InputTooLarge name) = IsRefused (IsAccepted c.words) c.reads (InputTooLarge name)
 Cause c (InputFault name) = ReadFailed c.reads name
-Cause c OtherForm = IsRefused (IsAccepted c.words) c.reads OtherForm
 Cause c (SinkExists name) = ForJob c (λ job. is_sink job.plan name ≡ true) × AtStore c (λ job publications. first_taken job.plan publications ≡ Some name)
-Cause c (AttemptsSpent vertex task) = (vertex.0 ≡ 0) × (task ≡ 0) × ForJob c (λ job. bad job 0 ≡ true) × AtStore c (λ job publications. first_taken job.plan publications ≡ None)
+Cause c (AttemptsSpent vertex task) = ForJob c (λ job. bad job vertex.0 ≡ true) × AtStore c (λ job publications. first_taken job.plan publications ≡ None)
 Cause c (DeviceFault device.Store) = StoreFailed c.store × ForJob c (λ job. ⊤)
 Cause c (DeviceFault device.Disk) = ⊥
 Cause c (MeaningUndefined name) = ⊥
 Cause c OutFault = Rose c.out.before c.out.now
 Cause c NoMemory = ⊤
 
--- nothing was published, or the job's sinks, once
+-- nothing was published, or a first part of the job's sinks, each once
 abbrev pub MayPublish : Call → Type 0
-MayPublish c = SamePublications c.store ⊎ ForJob c (λ job. Publishes job c.store)
+MayPublish c = SamePublications c.store ⊎ ForJob c (λ job. PublishesPart job c.store)
 
 -- the store is as it was
 abbrev pub SameStore : Call → Type 0
@@ -72,9 +74,8 @@ Leaves c (DagRefused fault) = SameStore c
 Leaves c (InputMissing name) = SameStore c
 Leaves c (InputTooLarge name) = SameStore c
 Leaves c (InputFault name) = SameStore c
-Leaves c OtherForm = SameStore c
-Leaves c (SinkExists name) = SameStore c
-Leaves c (AttemptsSpent vertex task) = SameStore c
+Leaves c (SinkExists name) = SamePublications c.store
+Leaves c (AttemptsSpent vertex task) = SamePublications c.store
 Leaves c (DeviceFault d) = MayPublish c
 Leaves c (MeaningUndefined name) = ⊥
 Leaves c OutFault = MayPublish c
@@ -88,13 +89,12 @@ SaidNoMemory out = Wrote (codes "NO MEMORY\n") out ⊎ (out.new ≡ out.old) ⊎
 
 -- the text of an answer that has one
 abbrev pub IsTextOf : Call → Status → List ℕ → Type 0
-IsTextOf c Succeeded text = ForJob c (λ job. text ≡ success_text job)
+IsTextOf c Succeeded text = ForJob c (λ job. TellsSinks c.store.new job text)
 IsTextOf c Usage text = text ≡ status_text Usage
 IsTextOf c (DagRefused fault) text = text ≡ status_text (DagRefused fault)
 IsTextOf c (InputMissing name) text = text ≡ status_text (InputMissing name)
 IsTextOf c (InputTooLarge name) text = text ≡ status_text (InputTooLarge name)
 IsTextOf c (InputFault name) text = text ≡ status_text (InputFault name)
-IsTextOf c OtherForm text = text ≡ status_text OtherForm
 IsTextOf c (SinkExists name) text = text ≡ status_text (SinkExists name)
 IsTextOf c (AttemptsSpent vertex task) text = ForJob c (λ job. text ≡ spent_text job.plan vertex.0 task)
 IsTextOf c (DeviceFault d) text = text ≡ status_text (DeviceFault d)
@@ -122,10 +122,15 @@ Writing c (DagRefused fault) = Says c (DagRefused fault)
 Writing c (InputMissing name) = Says c (InputMissing name)
 Writing c (InputTooLarge name) = Says c (InputTooLarge name)
 Writing c (InputFault name) = Says c (InputFault name)
-Writing c OtherForm = Says c OtherForm
 Writing c (SinkExists name) = Says c (SinkExists name)
 Writing c (AttemptsSpent vertex task) = Says c (AttemptsSpent vertex task)
 Writing c (DeviceFault d) = Says c (DeviceFault d)
 Writing c (MeaningUndefined name) = ⊥
 Writing c OutFault = SaysPart c
 Writing c NoMemory = SaidNoMemory c.out
+
+-- ---- the trace
+
+-- the entries are those of a run of the job, which is lawful
+abbrev pub HasTrace : Call → List Entry → Type 0
+HasTrace c entries = ForJob c (λ job. (conf : ConfValues) × IsTrace job conf (reverse entries))

@@ -9,6 +9,7 @@ pub mod Say
 pub mod Sources
 pub mod Text
 pub mod Words
-pub mod Work
+pub mod Answer
+pub mod Drive
 pub mod Tool
 pub mod Mean

@@ -2,12 +2,13 @@
 --     publications store               the names and bytes that were published, in their order
 --     first_taken job publications     the first of the job's sinks that is among them
 --     Publishes job store              the job has a meaning, no sink was there before, each is there once now, and nothing else was published
-use Rattle.std.specs.Prelude.{◌≡◌, ◌⊎◌, ℕ, true, List, [], ◌∷◌, ◌++◌, map, find, is_some, Bool, bytes_eq, Option, Some, None, option_map}
+--     PublishesPart job store          a first part of the sinks was published, and nothing else
+use Rattle.std.specs.Prelude.{◌≡◌, ℕ, true, List, ◌++◌, take, map, find, is_some, Bool, bytes_eq, Option, Some, None, option_map}
 use Rattle.std.specs.List.{list_any}
 use Rattle.tez_ports.specs.Content.{Named, Store, Told, bytes_of}
 use Rattle.tez_meaning.specs.Jobs.{Job}
 use Rattle.tez_meaning.specs.Value.{sinks, sink_texts, bad, IsDefined}
-use Rattle.tez_meaning.specs.Published.{IsPublishedOnce}
+use Rattle.tez_meaning.specs.Published.{IsPublishedOnce, IsPublishedAtMostOnce}
 use Rattle.tez_plan.specs.Dag.{Dag}
 use Rattle.tez_am.specs.Call.{Stored, StoreFailed}
 use Rattle.tez_am.specs.declared.status.Device.TheVariants as device
@@ -43,16 +44,16 @@ pub record Publishes (job : Job) (store : Stored) : Type 0 where
   pub once : Told store.new (λ s. IsPublishedOnce job s.publications)
   pub no_other : More (sink_texts job) store
 
--- why bytes were not published under a name, and what that left
-abbrev pub PublishCause : List ℕ → List ℕ → Stored → Status → Type 0
-PublishCause name bytes store (DeviceFault device.Store) = StoreFailed store × (SamePublications store ⊎ More ((name, bytes) ∷ []) store)
-PublishCause name bytes store NoMemory = SamePublications store
-PublishCause name bytes store _ = ⊥
+-- a first part of them is there, in their order, and nothing else was published
+pub record PublishesPart (job : Job) (store : Stored) : Type 0 where
+  pub count : ℕ
+  pub part : More (take count (sink_texts job)) store
+  pub at_most_once : Told store.old (λ s. first_taken job.plan s.publications ≡ None → Told store.new (λ t. IsPublishedAtMostOnce job t.publications))
 
 -- why a job was not run to its end, and what that left
 abbrev pub RunCause : Job → Stored → Status → Type 0
-RunCause job store (SinkExists name) = (store.new ≡ store.old) × (is_sink job.plan name ≡ true) × Told store.old (λ s. first_taken job.plan s.publications ≡ Some name)
-RunCause job store (AttemptsSpent vertex task) = (store.new ≡ store.old) × Told store.old (λ s. first_taken job.plan s.publications ≡ None) × (vertex.0 ≡ 0) × (task ≡ 0) × (bad job 0 ≡ true)
-RunCause job store (DeviceFault device.Store) = StoreFailed store × (SamePublications store ⊎ Publishes job store)
-RunCause job store NoMemory = SamePublications store
+RunCause job store (SinkExists name) = SamePublications store × (is_sink job.plan name ≡ true) × Told store.old (λ s. first_taken job.plan s.publications ≡ Some name)
+RunCause job store (AttemptsSpent vertex task) = SamePublications store × Told store.old (λ s. first_taken job.plan s.publications ≡ None) × (bad job vertex.0 ≡ true)
+RunCause job store (DeviceFault device.Store) = StoreFailed store × PublishesPart job store
+RunCause job store NoMemory = PublishesPart job store
 RunCause job store _ = ⊥

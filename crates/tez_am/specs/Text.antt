@@ -10,7 +10,7 @@ use Rattle.tez_meaning.specs.Jobs.{Job}
 use Rattle.tez_am.specs.Meaning.{summary}
 use Rattle.tez_am.specs.declared.status.Device.TheVariants.{Disk, Store}
 use Rattle.tez_am.specs.declared.status.Status.{Status}
-use Rattle.tez_am.specs.declared.status.Status.TheVariants.{Succeeded, Usage, DagRefused, InputMissing, InputTooLarge, InputFault, OtherForm, SinkExists, AttemptsSpent, DeviceFault, MeaningUndefined, OutFault, NoMemory}
+use Rattle.tez_am.specs.declared.status.Status.TheVariants.{Succeeded, Usage, DagRefused, InputMissing, InputTooLarge, InputFault, SinkExists, AttemptsSpent, DeviceFault, MeaningUndefined, OutFault, NoMemory}
 
 -- the text of a run that has published its sinks
 abbrev pub success_text : Job → List ℕ
@@ -49,7 +49,6 @@ status_text (DagRefused fault) = dag_fault_text fault
 status_text (InputMissing name) = codes "REFUSED input missing " ++ name ++ codes "\n"
 status_text (InputTooLarge name) = codes "REFUSED input too large " ++ name ++ codes "\n"
 status_text (InputFault name) = codes "REFUSED input fault " ++ name ++ codes "\n"
-status_text OtherForm = codes "REFUSED other form\n"
 status_text (SinkExists name) = codes "REFUSED sink exists " ++ name ++ codes "\n"
 status_text (AttemptsSpent vertex task) = []
 status_text (DeviceFault Disk) = codes "FAILED device disk\n"
@@ -72,4 +71,3 @@ exit_of (DeviceFault device) = 12
 exit_of OutFault = 14
 exit_of NoMemory = 15
 exit_of (MeaningUndefined name) = 16
-exit_of OtherForm = 19

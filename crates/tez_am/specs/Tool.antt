@@ -8,7 +8,7 @@ use Rattle.tez_ports.specs.Causes.{Rose}
 use Rattle.tez_ports.specs.Content.{Named, Told}
 use Rattle.tez_meaning.specs.Jobs.{Job}
 use Rattle.tez_meaning.specs.Value.{first_bad_vertex, IsDefined}
-use Rattle.tez_am.specs.Accept.{Planned, AfterDag, and_then, any_job}
+use Rattle.tez_am.specs.Accept.{Planned, AfterDag, and_then, run_job}
 use Rattle.tez_am.specs.Call.{Reads, Writes, Wrote, WrotePart}
 use Rattle.tez_am.specs.Cause.{IsRefused, ReadFailed, Refusal, SaidNoMemory}
 use Rattle.tez_am.specs.Meaning.{meaning_text}
@@ -16,7 +16,7 @@ use Rattle.tez_am.specs.Rows.{IsAnswerOfReads}
 use Rattle.tez_am.specs.Text.{name_of, status_text}
 use Rattle.tez_am.specs.Words.{check_word, meaning_word}
 use Rattle.tez_am.specs.declared.status.Status.{Status}
-use Rattle.tez_am.specs.declared.status.Status.TheVariants.{Succeeded, Usage, DagRefused, InputMissing, InputTooLarge, InputFault, OtherForm, SinkExists, AttemptsSpent, DeviceFault, MeaningUndefined, OutFault, NoMemory}
+use Rattle.tez_am.specs.declared.status.Status.TheVariants.{Succeeded, Usage, DagRefused, InputMissing, InputTooLarge, InputFault, SinkExists, AttemptsSpent, DeviceFault, MeaningUndefined, OutFault, NoMemory}
 
 pub record ToolCall : Type 0 where
   pub words : List (List ℕ)
@@ -40,7 +40,7 @@ unfoldable pub meant : Job → Result (List ℕ) Status
 meant job = meant_of job (first_bad_vertex job)
 
 abbrev pub meaning_of : Named → Planned → Result (List ℕ) Status
-meaning_of files said = and_then (any_job files said) meant
+meaning_of files said = and_then (run_job files said) meant
 
 -- by the DAG file of a check, and that of a meaning
 abbrev pub IsDueFor : Option (List ℕ) → Option (List ℕ) → Named → Result (List ℕ) Status → Type 0
@@ -79,7 +79,6 @@ ToolCause c (DagRefused fault) = IsRefused (IsToolDue c.words) c.reads (DagRefus
 ToolCause c (InputMissing name) = IsRefused (IsToolDue c.words) c.reads (InputMissing name)
 ToolCause c (InputTooLarge name) = IsRefused (IsToolDue c.words) c.reads (InputTooLarge name)
 ToolCause c (InputFault name) = ReadFailed c.reads name
-ToolCause c OtherForm = ⊥
 ToolCause c (SinkExists name) = ⊥
 ToolCause c (AttemptsSpent vertex task) = ⊥
 ToolCause c (DeviceFault d) = ⊥
@@ -99,7 +98,6 @@ ToolLeaves c (DagRefused fault) = Wrote (status_text (DagRefused fault)) c.out
 ToolLeaves c (InputMissing name) = Wrote (status_text (InputMissing name)) c.out
 ToolLeaves c (InputTooLarge name) = Wrote (status_text (InputTooLarge name)) c.out
 ToolLeaves c (InputFault name) = Wrote (status_text (InputFault name)) c.out
-ToolLeaves c OtherForm = ⊥
 ToolLeaves c (SinkExists name) = ⊥
 ToolLeaves c (AttemptsSpent vertex task) = ⊥
 ToolLeaves c (DeviceFault d) = ⊥

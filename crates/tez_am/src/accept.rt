@@ -4,7 +4,7 @@ ghost use Rattle.tez_dag_json.specs.Due.{IsDue};
 ghost use Rattle.tez_plan.specs.Faults.{IsValid};
 ghost use Rattle.tez_ports.specs.Content.{Told};
 ghost use Rattle.tez_am.specs.Call.{reads_of};
-ghost use Rattle.tez_am.specs.Accept.{AfterDag, IsDag, IsJob, any_job, is_one_task};
+ghost use Rattle.tez_am.specs.Accept.{IsDag, IsJob};
 ghost use Rattle.tez_am.specs.Cause.{Refusal};
 
 use crate::input::input;
@@ -43,7 +43,6 @@ pub fn read_plan<F: InputFiles>(
     ensures said { IfOk result (λ said. Told (F.files files.old) (λ m. IsDag (Some word.now) m (Ok said))) }
     ensures valid { IfOk result (λ said. IsValid said.0) }
     ensures refusal { IfErr result (Refusal (IsDag (Some word.now)) (reads_of F.files F.faults F.failed files.old files.new)) }
-    ensures no_form { IfErr result (λ s. s ≢ Status.OtherForm) }
     ensures sure { F.is_sure files.old → IfErr result (λ s. (n : List ℕ) → s ≢ Status.InputFault n) }
 {
     let bytes = match input(alloc, files, word, DAG_LIMIT) {
@@ -56,53 +55,25 @@ pub fn read_plan<F: InputFiles>(
     }
 }
 
-/// Whether a plan can be run: it has one vertex with one task.
-fn has_one_task(plan: &Plan) -> bool
-    ensures { result ≡ is_one_task plan.now }
-{
-    match plan.vertices() {
-        [vertex] => vertex.tasks == 1,
-        _ => false,
-    }
-}
-
-/// The job of the DAG file of this name.
-pub fn accept_any<F: InputFiles>(alloc: Global, word: &str, files: &mut F) -> Result<Job, Status>
+/// The job of the DAG file of this name, and its configuration.
+pub fn accept<F: InputFiles>(
+    alloc: Global,
+    word: &str,
+    files: &mut F,
+) -> Result<(Job, Conf), Status>
     ensures same { F.files files.new ≡ F.files files.old }
-    ensures job { IfOk result (λ job. Told (F.files files.old) (λ m. AfterDag any_job (Some word.now) m (Ok job))) }
-    ensures valid { IfOk result (λ job. IsValid job.plan) }
-    ensures refusal { IfErr result (Refusal (AfterDag any_job (Some word.now)) (reads_of F.files F.faults F.failed files.old files.new)) }
-    ensures no_form { IfErr result (λ s. s ≢ Status.OtherForm) }
-    ensures sure { F.is_sure files.old → IfErr result (λ s. (n : List ℕ) → s ≢ Status.InputFault n) }
-{
-    let (plan, _conf) = match read_plan(alloc, word, files) {
-        Ok(said) => said,
-        Err(refusal) => return Err(refusal),
-    };
-    match job_of(alloc, plan, files) {
-        Ok(job) => Ok(job),
-        Err(refusal) => Err(refusal),
-    }
-}
-
-/// The job of the DAG file of this name, if it can be run.
-pub fn accept<F: InputFiles>(alloc: Global, word: &str, files: &mut F) -> Result<Job, Status>
-    ensures same { F.files files.new ≡ F.files files.old }
-    ensures job { IfOk result (λ job. Told (F.files files.old) (λ m. IsJob (Some word.now) m (Ok job))) }
-    ensures valid { IfOk result (λ job. IsValid job.plan) }
-    ensures one { IfOk result (λ job. is_one_task job.plan ≡ true) }
+    ensures job { IfOk result (λ said. Told (F.files files.old) (λ m. IsJob (Some word.now) m (Ok said.0))) }
+    ensures conf { IfOk result (λ said. Told (F.files files.old) (λ m. IsDag (Some word.now) m (Ok (said.0.plan, said.1)))) }
+    ensures valid { IfOk result (λ said. IsValid said.0.plan) }
     ensures refusal { IfErr result (Refusal (IsJob (Some word.now)) (reads_of F.files F.faults F.failed files.old files.new)) }
     ensures sure { F.is_sure files.old → IfErr result (λ s. (n : List ℕ) → s ≢ Status.InputFault n) }
 {
-    let (plan, _conf) = match read_plan(alloc, word, files) {
+    let (plan, conf) = match read_plan(alloc, word, files) {
         Ok(said) => said,
         Err(refusal) => return Err(refusal),
     };
-    if !has_one_task(&plan) {
-        return Err(Status::OtherForm);
-    }
     match job_of(alloc, plan, files) {
-        Ok(job) => Ok(job),
+        Ok(job) => Ok((job, conf)),
         Err(refusal) => Err(refusal),
     }
 }

@@ -28,7 +28,6 @@ fn text(alloc: Global, plan: &Plan, conf: &Conf) -> Result<Bytes, AllocError>
 pub fn check<F: InputFiles>(alloc: Global, word: &str, files: &mut F) -> Result<Bytes, Status>
     ensures text { IfOk result (Checks (Some word.now) (F.files files.old)) }
     ensures refusal { IfErr result (Refusal (IsDag (Some word.now)) (reads_of F.files F.faults F.failed files.old files.new)) }
-    ensures no_form { IfErr result (λ s. s ≢ Status.OtherForm) }
     ensures sure { F.is_sure files.old → IfErr result (λ s. (n : List ℕ) → s ≢ Status.InputFault n) }
 {
     let (plan, conf) = match read_plan(alloc, word, files) {

@@ -23,7 +23,6 @@ pub fn input<F: InputFiles>(
     ensures fits { IfOk result (λ v. length v.items ≤ limit) }
     ensures bytes { IfOk result (λ v. Told (F.files files.old) (λ m. content name.now limit m ≡ Ok v.items)) }
     ensures refusal { IfErr result (Refusal (IsContent name.now limit) (reads_of F.files F.faults F.failed files.old files.new)) }
-    ensures no_form { IfErr result (λ s. s ≢ Status.OtherForm) }
     ensures sure { F.is_sure files.old → IfErr result (λ s. (n : List ℕ) → s ≢ Status.InputFault n) }
 {
     match files.read(alloc, name, limit) {

@@ -2,11 +2,12 @@
 #![tactic(auto)]
 
 mod accept;
+mod answer;
 mod check;
+mod drive;
 mod failure;
 mod input;
 mod mean;
-mod operate;
 mod run;
 mod say;
 mod sources;

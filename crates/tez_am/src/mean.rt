@@ -14,7 +14,8 @@ ghost use Rattle.tez_am.specs.Meaning.{meaning_text as meaning_text_of};
 ghost use Rattle.tez_am.specs.Text.{name_of};
 ghost use Rattle.tez_am.specs.Tool.{meaning_of, meant, ToolRefusal};
 
-use crate::accept::accept_any;
+use crate::accept::accept;
+use crate::answer::vertex_name;
 use crate::status::Status;
 use crate::text::sink_line;
 use std::alloc::{AllocError, Global};
@@ -56,11 +57,7 @@ fn text_of(alloc: Global, sinks: &[(Name, Bytes)]) -> Result<Bytes, AllocError>
 fn undefined(alloc: Global, job: &Job, vertex: VertexId) -> Status
     ensures { (result ≡ Status.NoMemory) ⊎ (result ≡ Status.MeaningUndefined (name_of job.now.plan vertex.0)) }
 {
-    let name = match job.plan().vertices().get(vertex.0 as usize) {
-        Some(vertex) => Name::copy_of(alloc, vertex.name.as_str()),
-        None => Name::copy_of(alloc, ""),
-    };
-    match name {
+    match vertex_name(alloc, job, vertex) {
         Ok(name) => Status::MeaningUndefined(name),
         Err(_) => Status::NoMemory,
     }
@@ -72,7 +69,6 @@ fn meaning_text(alloc: Global, job: &Job) -> Result<Bytes, Status>
     ensures defined { IfOk result (λ text. IsDefined job.now) }
     ensures kind { IfOk result (λ text. text ≡ meaning_text_of job.now) }
     ensures undefined { IfErr result (λ s. (s ≡ Status.NoMemory) ⊎ ((name : List ℕ) × (s ≡ Status.MeaningUndefined name) × (meant job.now ≡ Err s))) }
-    ensures no_form { IfErr result (λ s. s ≢ Status.OtherForm) }
     ensures no_fault { IfErr result (λ s. (n : List ℕ) → s ≢ Status.InputFault n) }
 {
     match tez_meaning::meaning(alloc, job) {
@@ -89,11 +85,10 @@ fn meaning_text(alloc: Global, job: &Job) -> Result<Bytes, Status>
 pub fn meaning<F: InputFiles>(alloc: Global, word: &str, files: &mut F) -> Result<Bytes, Status>
     ensures text { IfOk result (λ text. Means (Some word.now) (F.files files.old) text) }
     ensures refusal { IfErr result (ToolRefusal (AfterDag meaning_of (Some word.now)) (reads_of F.files F.faults F.failed files.old files.new)) }
-    ensures no_form { IfErr result (λ s. s ≢ Status.OtherForm) }
     ensures sure { F.is_sure files.old → IfErr result (λ s. (n : List ℕ) → s ≢ Status.InputFault n) }
 {
-    let job = match accept_any(alloc, word, files) {
-        Ok(job) => job,
+    let (job, _conf) = match accept(alloc, word, files) {
+        Ok(said) => said,
         Err(refusal) => return Err(refusal),
     };
     match meaning_text(alloc, &job) {

@@ -1,88 +1,59 @@
-// A job, from its records to the publication of its sink. The store alone is touched.
-ghost use Rattle.std.specs.Prelude.{◌≡◌, ◌≢◌, ◌⊎◌, ◌≤◌, true, [], ◌∷◌, None, IfOk, IfErr, OnOk};
+// A job, run to the publication of its sinks. The store alone is touched.
+ghost use Rattle.std.specs.Prelude.{◌≢◌, reverse, IfOk, IfErr, OnOk};
 ghost use Rattle.tez_plan.specs.Faults.{IsValid};
-ghost use Rattle.tez_ports.specs.Content.{Told};
-ghost use Rattle.tez_am.specs.Accept.{is_one_task};
+ghost use Rattle.tez_world.specs.Lawful.{IsTrace};
 ghost use Rattle.tez_am.specs.Call.{stored_of};
-ghost use Rattle.tez_am.specs.Publish.{More, PublishCause, Publishes, RunCause, first_taken};
-ghost use Rattle.tez_am.specs.Say.{failure_text, status_of};
-ghost use Rattle.tez_am.specs.Text.{success_text};
-ghost use Rattle.tez_am.specs.Run.{HasText, TakenCause};
+ghost use Rattle.tez_am.specs.Answer.{TellsSinks};
+ghost use Rattle.tez_am.specs.Drive.{ComesTo};
+ghost use Rattle.tez_am.specs.Publish.{Publishes, RunCause};
+ghost use Rattle.tez_am.specs.Run.{HasText};
+ghost use Rattle.tez_am.specs.Say.{status_of};
 
+use crate::answer::answer;
+use crate::drive::drive;
 use crate::failure::Failure;
-use crate::operate::work;
 use crate::status::{Device, Status};
-use std::alloc::Global;
-use tez_ids::{Bytes, Name};
+use std::alloc::{AllocError, Global};
+use tez_conf::Conf;
+use tez_events::Trace;
+use tez_ids::Bytes;
 use tez_meaning::Job;
-use tez_ports::{OutputStore, StoreFault};
+use tez_ports::OutputStore;
+use tez_world::{JobRun, Mode, Verdict};
 
-/// Publishes the bytes under the name.
-fn publish<S: OutputStore>(store: &mut S, name: &str, bytes: &[u8]) -> Result<(), Status>
-    ensures published { OnOk result (More ((name.now, bytes.now) ∷ []) (stored_of S.store S.faults S.stops store.old store.new)) }
-    ensures cause { IfErr result (PublishCause name.now bytes.now (stored_of S.store S.faults S.stops store.old store.new)) }
-    ensures sure { S.is_sure store.old → IfErr result (λ s. s ≢ Status.DeviceFault Device.Store) }
+/// What the end of a run comes to.
+fn finish(alloc: Global, job: &Job, ended: Result<Verdict, AllocError>) -> Result<Bytes, Failure>
+    ensures { ComesTo job.now ended result }
 {
-    match store.ready(name, bytes) {
-        Ok(()) => {}
-        Err(StoreFault::NoMemory) => return Err(Status::NoMemory),
-        Err(_) => return Err(Status::DeviceFault(Device::Store)),
-    }
-    match store.publish(name) {
-        Ok(()) => Ok(()),
-        Err(_) => Err(Status::DeviceFault(Device::Store)),
+    match ended {
+        Ok(verdict) => answer(alloc, job, verdict),
+        Err(_) => Err(Failure::Because(Status::NoMemory)),
     }
 }
 
-fn exists(alloc: Global, sink: &Name) -> Status
-    ensures { (result ≡ Status.SinkExists sink.now) ⊎ (result ≡ Status.NoMemory) }
-{
-    match Name::copy_of(alloc, sink.as_str()) {
-        Ok(sink) => Status::SinkExists(sink),
-        Err(_) => Status::NoMemory,
-    }
-}
-
-/// Asks the store whether the sink of the job was published before.
-fn not_taken<S: OutputStore>(alloc: Global, job: &Job, store: &mut S) -> Result<(), Status>
-    requires valid { IsValid job.now.plan }
-    requires one { is_one_task job.now.plan ≡ true }
-    ensures same { S.store store.new ≡ S.store store.old }
-    ensures later { S.faults store.old ≤ S.faults store.new }
-    ensures later_stops { S.stops store.old ≤ S.stops store.new }
-    ensures stays_sure { S.is_sure store.old → S.is_sure store.new }
-    ensures free { OnOk result (Told (S.store store.old) (λ s. first_taken job.now.plan s.publications ≡ None)) }
-    ensures cause { IfErr result (TakenCause job.now (stored_of S.store S.faults S.stops store.old store.new)) }
-    ensures sure { S.is_sure store.old → IfErr result (λ s. s ≢ Status.DeviceFault Device.Store) }
-{
-    let sink = job.plan().vertices()[0].sink.as_ref().unwrap();
-    match store.is_published(sink.as_str()) {
-        Ok(true) => Err(exists(alloc, sink)),
-        Ok(false) => Ok(()),
-        Err(_) => Err(Status::DeviceFault(Device::Store)),
-    }
-}
-
-/// Publishes the sink of the job, unless it was published before, and gives the text that says so.
-pub fn run<S: OutputStore>(alloc: Global, job: &Job, store: &mut S) -> Result<Bytes, Failure>
-    requires valid { IsValid job.now.plan }
-    requires one { is_one_task job.now.plan ≡ true }
-    ensures text { IfOk result (λ text. text ≡ success_text job.now) }
-    ensures published { OnOk result (Publishes job.now (stored_of S.store S.faults S.stops store.old store.new)) }
-    ensures cause { IfErr result (λ f. RunCause job.now (stored_of S.store S.faults S.stops store.old store.new) (status_of f)) }
-    ensures failure_text { IfErr result (HasText job.now) }
+/// Runs a job, and gives the text that says that its sinks are published. Afterwards the log has the
+/// trace of the run.
+pub fn run<S: OutputStore>(
+    alloc: Global,
+    job: Job,
+    conf: Conf,
+    store: &mut S,
+    log: &mut Trace,
+) -> Result<Bytes, Failure>
+    requires valid { IsValid job.plan }
+    // Where the store tells nothing, the records and bytes that the text has are as the store counted them.
+    ensures text { IfOk result (TellsSinks (S.store store.new) job) }
+    ensures published { OnOk result (Publishes job (stored_of S.store S.faults S.stops store.old store.new)) }
+    ensures cause { IfErr result (λ f. RunCause job (stored_of S.store S.faults S.stops store.old store.new) (status_of f)) }
+    ensures trace { IsTrace job conf (reverse log.new.entries) }
+    ensures failure_text { IfErr result (HasText job) }
     ensures sure { S.is_sure store.old → IfErr result (λ f. status_of f ≢ Status.DeviceFault Device.Store) }
 {
-    match not_taken(alloc, job, store) {
-        Ok(()) => {}
-        Err(cause) => return Err(Failure::Because(cause)),
-    }
-    let made = match work(alloc, job) {
-        Ok(made) => made,
-        Err(failure) => return Err(failure),
-    };
-    match publish(store, made.sink.as_str(), made.bag.text()) {
-        Ok(()) => Ok(made.text),
-        Err(cause) => Err(Failure::Because(cause)),
-    }
+    let mut run = JobRun::open(alloc, job, conf, Mode::Run);
+    let ended = drive(alloc, &mut run, store);
+    run.publishes_in_order();
+    run.is_lawful();
+    let answered = finish(alloc, run.job(), ended);
+    *log = run.into_trace();
+    answered
 }

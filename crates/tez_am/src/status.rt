@@ -26,11 +26,9 @@ pub enum Status {
     InputTooLarge(Name),
     /// The input of this name could not be read.
     InputFault(Name),
-    /// The plan of the DAG file is not of the form that can be run.
-    OtherForm,
     /// The sink of this name was published before.
     SinkExists(Name),
-    /// The task's attempts are spent: it meets a bad record.
+    /// The task's attempts are spent: its vertex meets a bad record.
     AttemptsSpent { vertex: VertexId, task: u32 },
     /// A call of this device failed.
     DeviceFault(Device),
@@ -58,6 +56,5 @@ pub fn exit_code(status: &Status) -> u8
         Status::OutFault => 14,
         Status::NoMemory => 15,
         Status::MeaningUndefined(_) => 16,
-        Status::OtherForm => 19,
     }
 }

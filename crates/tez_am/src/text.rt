@@ -1,5 +1,5 @@
 // The texts of the answers.
-ghost use Rattle.std.specs.Prelude.{◌≡◌, ◌++◌, [], ◌∷◌, IfOk, codes, string_bytes};
+ghost use Rattle.std.specs.Prelude.{◌≡◌, ◌++◌, [], ◌∷◌, IfOk, string_bytes};
 ghost use Rattle.tez_am.specs.Meaning.{sink_line as sink_line_of};
 ghost use Rattle.tez_am.specs.Say.{failure_text};
 ghost use Rattle.tez_am.specs.Text.{spent_line, status_text, dag_fault_text, plan_fault_text};
@@ -8,7 +8,6 @@ use crate::failure::Failure;
 use crate::status::{Device, Status};
 use std::alloc::{AllocError, Global};
 use tez_dag_json::{DagFault, word_and_place};
-use tez_ids::Bytes;
 use tez_plan::PlanFault;
 
 /// The line of a sink.
@@ -29,15 +28,6 @@ pub fn sink_line(
     text.push_str(bytes.to_string(alloc)?.as_str())?;
     text.push_str("\n")?;
     Ok(text)
-}
-
-/// What is said of one published sink.
-pub fn success(alloc: Global, name: &str, records: usize, bytes: usize) -> Result<Bytes, AllocError>
-    ensures { IfOk result (λ text. text ≡ codes "SUCCEEDED\n" ++ sink_line_of name.now records bytes) }
-{
-    let mut text = Vec::from_slice(alloc, b"SUCCEEDED\n")?;
-    text.extend_from_slice(sink_line(alloc, name, records, bytes)?.as_bytes())?;
-    Ok(Bytes::new(text))
 }
 
 /// What is said of a failure.
@@ -76,7 +66,6 @@ pub fn refusal(alloc: Global, status: &Status) -> Result<String, AllocError>
         Status::InputMissing(name) => named(alloc, "REFUSED input missing ", name.as_str()),
         Status::InputTooLarge(name) => named(alloc, "REFUSED input too large ", name.as_str()),
         Status::InputFault(name) => named(alloc, "REFUSED input fault ", name.as_str()),
-        Status::OtherForm => String::from_str(alloc, "REFUSED other form\n"),
         Status::SinkExists(name) => named(alloc, "REFUSED sink exists ", name.as_str()),
         Status::AttemptsSpent { .. } => Ok(String::new(alloc)),
         Status::MeaningUndefined(name) => named(alloc, "REFUSED meaning ", name.as_str()),

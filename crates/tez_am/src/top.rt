@@ -1,8 +1,8 @@
 // The top call.
-ghost use Rattle.std.specs.Prelude.{◌≡◌, ◌≢◌, ℕ, List, [], None, map, string_bytes};
+ghost use Rattle.std.specs.Prelude.{◌≡◌, ◌≢◌, ◌⊎◌, ℕ, List, None, map, string_bytes};
 ghost use Rattle.tez_ports.specs.Content.{Told};
 ghost use Rattle.tez_am.specs.Call.{reads_of, stored_of, writes_of};
-ghost use Rattle.tez_am.specs.Cause.{Cause, Leaves, Writing};
+ghost use Rattle.tez_am.specs.Cause.{Cause, Leaves, Writing, HasTrace};
 ghost use Rattle.tez_am.specs.Rows.{IsAnswer, KeepsRows};
 ghost use Rattle.tez_am.specs.Words.{dag_word};
 
@@ -16,10 +16,9 @@ use std::alloc::Global;
 use tez_events::Trace;
 use tez_ports::{Gate, InputFiles, JournalDisk, OutputStore, TextOut};
 
-/// Runs a command: works the plan of its DAG file, which has one vertex with one task, publishes its
-/// sink once with the sorted records, and says so, or says why not. The disk and the gate are not
-/// used, and the log stays empty. It takes the time of `process` on the lines of the source; it
-/// holds the source, its lines, and what the program makes of them twice.
+/// Runs a command: works the plan of its DAG file, publishes each sink once with its sorted records, and
+/// says so, or says why not. The disk and the gate are not used. Each task costs what `work` costs on its
+/// inputs; the sources and what stands on the shelves are held until the end.
 pub fn am_run<F: InputFiles, S: OutputStore, D: JournalDisk, O: TextOut, G: Gate + Sync>(
     alloc: Global,
     words: &[String],
@@ -28,9 +27,8 @@ pub fn am_run<F: InputFiles, S: OutputStore, D: JournalDisk, O: TextOut, G: Gate
     _disk: &mut D,
     out: &mut O,
     _gate: &G,
-    _log: &mut Trace,
+    log: &mut Trace,
 ) -> Status
-    requires { _log.old.entries ≡ [] }
     // Each answer has its cause.
     ensures cause { Cause (record {
       words = map string_bytes words.now;
@@ -54,6 +52,13 @@ pub fn am_run<F: InputFiles, S: OutputStore, D: JournalDisk, O: TextOut, G: Gate
       store = stored_of S.store S.faults S.stops store.old store.new;
       out = writes_of O.written O.faults out.old out.new;
     }) result }
+    // Where a job was run, the log has its trace, which is lawful; else it is as it was.
+    ensures trace { (log.new ≡ log.old) ⊎ HasTrace (record {
+      words = map string_bytes words.now;
+      reads = reads_of F.files F.faults F.failed files.old files.new;
+      store = stored_of S.store S.faults S.stops store.old store.new;
+      out = writes_of O.written O.faults out.old out.new;
+    }) log.new.entries }
     // Each answer comes where it is due, unless a device fails or memory is short.
     ensures usage { dag_word (map string_bytes words.now) ≡ None → IsAnswer Status.Usage result }
     ensures rows { Told (F.files files.old) (λ m. KeepsRows (map string_bytes words.now) m (S.store store.old) result) }
@@ -62,13 +67,12 @@ pub fn am_run<F: InputFiles, S: OutputStore, D: JournalDisk, O: TextOut, G: Gate
     ensures sure_store { S.is_sure store.old → result ≢ Status.DeviceFault Device.Store }
     ensures sure_out { O.is_sure out.old → result ≢ Status.OutFault }
     ensures disk { (D.disk _disk.new ≡ D.disk _disk.old) × (D.faults _disk.new ≡ D.faults _disk.old) × (D.stops _disk.new ≡ D.stops _disk.old) × (D.spare _disk.new ≡ D.spare _disk.old) }
-    ensures log { _log.new ≡ _log.old }
 {
     let Some(word) = dag_file(words) else {
         return say(alloc, out, Err(Failure::Because(Status::Usage)));
     };
     match accept(alloc, word, files) {
-        Ok(job) => say(alloc, out, run(alloc, &job, store)),
+        Ok((job, conf)) => say(alloc, out, run(alloc, job, conf, store, log)),
         Err(refusal) => say(alloc, out, Err(Failure::Because(refusal))),
     }
 }

@@ -1,5 +1,6 @@
-use Rattle.std.proofs.Common.{refl, sym}
-use Rattle.tez_am.proofs.Ending.{usage_ends, refused_ends, run_ends}
+use Rattle.std.proofs.Common.{refl, sym, inl, inr}
+use Rattle.std.specs.Prelude.{map, string_bytes}
+use Rattle.tez_am.proofs.Ending.{usage_ends, refused_ends, run_ends, run_traced}
 use Rattle.tez_am.proofs.RowLemmas.{rows_from_cause}
 use Rattle.tez_am.proofs.top.am_run.Goals as goal
 
@@ -44,3 +45,14 @@ returns-in-Err-clause-text g c = (refused_ends _ _ (sym c.in-Some.ensures) refl 
 
 pub returns-in-Err-clause-rows : goal.returns-in-Err-clause-rows
 returns-in-Err-clause-rows g c = rows_from_cause _ _ (returns-in-Err-clause-cause g c)
+
+-- the trace
+
+pub returns-in_default-clause-trace : goal.returns-in_default-clause-trace
+returns-in_default-clause-trace g c = inl refl
+
+pub returns-in-Err-clause-trace : goal.returns-in-Err-clause-trace
+returns-in-Err-clause-trace g c = inl refl
+
+pub returns-in-Ok-clause-trace : goal.returns-in-Ok-clause-trace
+returns-in-Ok-clause-trace g c = inr (run_traced (map string_bytes c.args.words.now) _ _ c.in-Ok.job c.in-Ok.conf c.run.new.log.entries (sym c.in-Some.ensures) c.in-Ok.ensures.job c.run.ensures.trace)
