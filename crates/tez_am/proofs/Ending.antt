@@ -6,7 +6,7 @@ use Rattle.tez_conf.specs.declared.values.ConfValues.{ConfValues}
 use Rattle.tez_events.specs.declared.Entry.{Entry}
 use Rattle.tez_meaning.specs.Jobs.{Job}
 use Rattle.tez_world.specs.Lawful.{IsTrace}
-use Rattle.tez_am.specs.Accept.{IsJob, IsAccepted}
+use Rattle.tez_am.specs.Accept.{IsJob, IsAccepted, IsDag}
 use Rattle.tez_am.specs.Call.{Writes, Call, Wrote, WrotePart}
 use Rattle.tez_am.specs.Cause.{Refusal, ForJob, Cause, IsTextOf, Leaves, MayPublish, SaidNoMemory, Writing}
 use Rattle.tez_am.specs.Publish.{publications, Publishes, RunCause}
@@ -175,6 +175,6 @@ pub run_ends : (c : Call) (word : List ℕ) (job : Job) → dag_word c.words ≡
 run_ends c word job is at (Ok text) answer tells done cause names said = success_ends c job (λ m t. at_word IsJob (dag_word c.words) word m (Ok job) is (at m t)) text answer tells done said
 run_ends c word job is at (Err f) answer tells done cause names said = failure_ends c job (λ m t. at_word IsJob (dag_word c.words) word m (Ok job) is (at m t)) f answer cause names said
 
-pub run_traced : (words : List (List ℕ)) (files : Option Named) (word : List ℕ) (job : Job) (conf : ConfValues) (entries : List Entry) → dag_word words ≡ Some word → Told files (λ m. IsJob (Some word) m (Ok job)) → IsTrace job conf (reverse entries)
-    → Told files (λ m. (j : Job) × IsAccepted words m (Ok j) × ((c : ConfValues) × IsTrace j c (reverse entries)))
-run_traced words files word job conf entries is at trace = λ m t. (job, at_word IsJob (dag_word words) word m (Ok job) is (at m t), (conf, trace))
+pub run_traced : (words : List (List ℕ)) (files : Option Named) (word : List ℕ) (job : Job) (conf : ConfValues) (entries : List Entry) → dag_word words ≡ Some word → Told files (λ m. IsJob (Some word) m (Ok job)) → Told files (λ m. IsDag (Some word) m (Ok (job.plan, conf)))
+    → IsTrace job conf (reverse entries) → Told files (λ m. (j : Job) × (c : ConfValues) × IsAccepted words m (Ok j) × IsDag (dag_word words) m (Ok (j.plan, c)) × IsTrace j c (reverse entries))
+run_traced words files word job conf entries is at said trace = λ m t. (job, conf, at_word IsJob (dag_word words) word m (Ok job) is (at m t), at_word IsDag (dag_word words) word m (Ok (job.plan, conf)) is (said m t), trace)

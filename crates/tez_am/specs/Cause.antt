@@ -7,7 +7,7 @@ use Rattle.tez_events.specs.declared.Entry.{Entry}
 use Rattle.tez_meaning.specs.Jobs.{Job}
 use Rattle.tez_meaning.specs.Value.{bad}
 use Rattle.tez_world.specs.Lawful.{IsTrace}
-use Rattle.tez_am.specs.Accept.{IsAccepted}
+use Rattle.tez_am.specs.Accept.{IsAccepted, IsDag}
 use Rattle.tez_am.specs.Call.{Reads, Writes, Call, StoreFailed, Wrote, WrotePart}
 use Rattle.tez_am.specs.Publish.{SamePublications, Publishes, PublishesPart, first_taken, is_sink}
 use Rattle.tez_am.specs.Answer.{TellsSinks}
@@ -131,6 +131,6 @@ Writing c NoMemory = SaidNoMemory c.out
 
 -- ---- the trace
 
--- the entries are those of a run of the job, which is lawful
+-- the entries are those of a run of the job in the configuration that its DAG file gives, which is lawful
 abbrev pub HasTrace : Call → List Entry → Type 0
-HasTrace c entries = ForJob c (λ job. (conf : ConfValues) × IsTrace job conf (reverse entries))
+HasTrace c entries = Told c.reads.files (λ m. (job : Job) × (conf : ConfValues) × IsAccepted c.words m (Ok job) × IsDag (dag_word c.words) m (Ok (job.plan, conf)) × IsTrace job conf (reverse entries))

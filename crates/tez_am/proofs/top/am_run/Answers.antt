@@ -55,4 +55,4 @@ pub returns-in-Err-clause-trace : goal.returns-in-Err-clause-trace
 returns-in-Err-clause-trace g c = inl refl
 
 pub returns-in-Ok-clause-trace : goal.returns-in-Ok-clause-trace
-returns-in-Ok-clause-trace g c = inr (run_traced (map string_bytes c.args.words.now) _ _ c.in-Ok.job c.in-Ok.conf c.run.new.log.entries (sym c.in-Some.ensures) c.in-Ok.ensures.job c.run.ensures.trace)
+returns-in-Ok-clause-trace g c = inr (run_traced (map string_bytes c.args.words.now) _ _ c.in-Ok.job c.in-Ok.conf c.run.new.log.entries (sym c.in-Some.ensures) c.in-Ok.ensures.job c.in-Ok.ensures.conf c.run.ensures.trace)
