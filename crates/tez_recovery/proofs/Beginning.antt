@@ -1,0 +1,98 @@
+-- A master begins: what each part is after the first entry.
+use Rattle.std.specs.Prelude.{◌≡◌, ℕ, zero, suc, ◌+◌, max, Bool, true, false, List, [], ◌∷◌, map, length, replicate, slice_get, Option, None, refl}
+use Rattle.std.specs.Option.{option_map_or}
+use Rattle.std.proofs.Common.{ap, sym, ◌∙◌, arith, subst, add-zero, zero-add}
+use Rattle.tez_ids.specs.declared.Epoch.{Epoch}
+use Rattle.tez_lists.specs.Numbers.{numbers_from}
+use Rattle.tez_lists.specs.Tables.{table}
+use Rattle.tez_lists.proofs.Tables.{map_each}
+use Rattle.tez_plan.specs.Dag.{Dag, tasks_of as planned}
+use Rattle.tez_conf.specs.declared.values.ConfValues.{ConfValues}
+use Rattle.tez_events.specs.declared.Entry.TheVariants.{Opened, Over, Stopped, Published, CommitStarted}
+use Rattle.tez_standing.specs.declared.state.Phase.TheVariants.{Running, Finished}
+use Rattle.tez_standing.specs.declared.state.Standing.{Standing}
+use Rattle.tez_history.specs.History.{Past, epoch, is_committing, is_readied, is_published}
+use Rattle.tez_history.specs.Rules.{is_at_start}
+use Rattle.tez_history.specs.Follows.{IsMade}
+use Rattle.tez_history.specs.Runs.{opened_by}
+use Rattle.tez_pool_view.specs.View.{pool_view}
+use Rattle.tez_pool_view.proofs.Leaving.{leave_opened, leave_over}
+use Rattle.tez_router_view.proofs.Told.{start_view}
+use Rattle.tez_schedule_view.proofs.Lists.{each-same}
+use Rattle.tez_schedule_view.proofs.Beginning.{start_view as schedule_start}
+use Rattle.tez_control.specs.View.{master_view}
+use Rattle.tez_control.proofs.Parts.{same_parts}
+use Rattle.tez_control.proofs.Own.{readied_view, published_view}
+use Rattle.tez_recovery.specs.Recovery.{KeptState, found, found_by}
+use Rattle.tez_recovery.specs.Laws.{knowing_no_sink, has_committed, as_ground, found_in, start_of, no_lies, fresh, open_in, open_of, begun_by, begun}
+
+-- ---- a table in which each place is the same
+
+by-element : {X Y : Type 0} (f : ℕ → Y) (h : X → Y) (n : ℕ) (xs : List X) → ((k : ℕ) (x : X) → slice_get xs k ≡ Rattle.std.specs.Prelude.Some x → f (n + k) ≡ h x) → map f (numbers_from n (length xs)) ≡ map h xs
+by-element f h n [] s = refl
+by-element f h n (x ∷ xs) s =
+    let here : f n ≡ h x = subst (λ m. f m ≡ h x) (add-zero n) (s 0 x refl) in
+    let rest : map f (numbers_from (suc n) (length xs)) ≡ map h xs = by-element f h (suc n) xs (λ k y g. subst (λ m. f m ≡ h y) (omega arith) (s (suc k) y g)) in
+    ap (λ y. y ∷ map f (numbers_from (suc n) (length xs))) here ∙ ap (λ ys. h x ∷ ys) rest
+
+no_table : (g : Dag) → table (λ v i. None) (planned g) (length g.vertices) ≡ map no_lies g.vertices
+no_table g =
+    by-element (λ v. map (λ i. None) (numbers_from 0 (planned g v))) no_lies 0 g.vertices
+    (λ k x h. each-same (λ i. None) None 0 (planned g (0 + k)) (λ i. refl) ∙ ap (λ m. replicate (planned g m) None) (zero-add k) ∙ ap (λ o. replicate (option_map_or (λ s. s.tasks) o 0) None) h)
+
+-- ---- the first entry
+
+-- where no master is up, no commit goes on
+not_committing : (past : Past) → is_at_start past ≡ true → false ≡ is_committing past
+not_committing [] at = refl
+not_committing (Stopped cause ∷ past) at = refl
+not_committing (_ ∷ past) at = cc
+
+pub opens_view : (g : Dag) (c : ConfValues) (past : Past) (n : Epoch) → is_at_start past ≡ true → begun_by g c past (Opened n ∷ past) ≡ master_view g c (Opened n ∷ past)
+opens_view g c past n at =
+    same_parts g c n.0 (published_view g past) false false true refl (sym (leave_opened c past n at)) (sym (start_view g past (Opened n) refl)) (sym (schedule_start g c past (Opened n) refl)) (sym (no_table g)) refl
+
+pub over_view : (g : Dag) (c : ConfValues) (past : Past) → is_at_start past ≡ true → record (begun_by g c past (Over ∷ past)) { finished = true } ≡ master_view g c (Over ∷ past)
+over_view g c past at =
+    same_parts g c (suc (epoch past)) (published_view g past) false true true refl (sym (leave_over c past at)) (sym (start_view g past Over refl)) (sym (schedule_start g c past Over refl)) (sym (no_table g)) refl
+    ∙ ap (λ b. record (master_view g c (Over ∷ past)) { committing = b }) (not_committing past at)
+
+pub begun_view : (g : Dag) (c : ConfValues) (past : Past) (s : Standing) → is_at_start past ≡ true → s.phase ≡ Running → begun g c past s ≡ master_view g c (open_of s past ∷ past)
+begun_view g c past s at run =
+    subst (λ p. begun_by g c past (open_in p s.epoch past ∷ past) ≡ master_view g c (open_in p s.epoch past ∷ past)) (sym run) (opens_view g c past (record { 0 = suc (max s.epoch (epoch past)) }) at)
+
+-- no sink was published before
+pub begun_fresh : (g : Dag) (c : ConfValues) (past : Past) (s : Standing) → s.phase ≡ Running → ((v : ℕ) → is_published v past ≡ false) → begun g c past s ≡ fresh g c (suc (max s.epoch (epoch past))) (pool_view c past)
+begun_fresh g c past s run none =
+    let n = suc (max s.epoch (epoch past)) in
+    let f = fresh g c n (pool_view c past) in
+    subst (λ p. begun_by g c past (open_in p s.epoch past ∷ past) ≡ f) (sym run)
+    (ap (λ xs. record f { readied = xs; published = published_view g past }) (each-same (λ v. false) false 0 (length g.vertices) (λ v. refl))
+    ∙ ap (λ xs. record f { published = xs }) (each-same (λ v. is_published v past) false 0 (length g.vertices) none))
+
+-- a sink is published in a commit
+begun_once : (past : Past) → is_committing past ≡ true → has_committed past ≡ true
+begun_once [] h = cc
+begun_once (CommitStarted ∷ past) h = refl
+begun_once (Opened _ ∷ past) h = cc
+begun_once (Stopped _ ∷ past) h = cc
+begun_once (_ ∷ past) h = begun_once past h
+
+pub none_published : (g : Dag) (c : ConfValues) (past : Past) (v : ℕ) → IsMade g c past → has_committed past ≡ false → is_published v past ≡ false
+none_published g c [] v m none = refl
+none_published g c (Published w ∷ past) v m none = let begun : has_committed past ≡ true = begun_once past m.0.0 in cc
+none_published g c (CommitStarted ∷ past) v m none = cc
+none_published g c (_ ∷ past) v m none = none_published g c past v m.1 none
+
+-- the job is over: a fresh master knows nothing of the sinks
+none_known : (f : ℕ → Bool) (n : ℕ) → replicate n false ≡ map (λ b. false) (map f (numbers_from 0 n))
+none_known f n = sym (map_each (λ b. false) f 0 n ∙ each-same (λ v. false) false 0 n (λ v. refl))
+
+pub over_fresh : (g : Dag) (c : ConfValues) (past : Past) (s : Standing) (ks : List KeptState) (sums : List (ℕ × ℕ)) → is_at_start past ≡ true → s.phase ≡ Finished sums
+    → found (fresh g c (suc (epoch past)) (pool_view c past)) s ks ≡ knowing_no_sink (master_view g c (start_of g c past s ks))
+over_fresh g c past s ks sums at end =
+    let f = fresh g c (suc (epoch past)) (pool_view c past) in
+    subst (λ p. found_by p f s ks ≡ knowing_no_sink (master_view g c (opened_by g c (record { past = past; verdict = None }) (found_in p (as_ground s ks))).past)) (sym end)
+    (ap (λ xs. record f { finished = true; readied = xs }) (none_known (λ v. is_readied v past) (length g.vertices))
+    ∙ ap (λ xs. record f { finished = true; readied = map (λ b. false) (readied_view g past); published = xs }) (none_known (λ v. is_published v past) (length g.vertices))
+    ∙ ap knowing_no_sink (over_view g c past at))
