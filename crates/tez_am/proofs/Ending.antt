@@ -1,14 +1,16 @@
 -- How a call ends, from how its run ended and from what was said.
 use Rattle.std.proofs.Common.{◌≡◌, ◌≢◌, ℕ, List, reverse, Option, Some, None, Result, Ok, Err, IfOk, IfErr, OnOk, refl, inl, inr, sym, subst, ap}
 use Rattle.tez_ports.specs.Causes.{Rose}
-use Rattle.tez_ports.specs.Content.{Named, Told}
+use Rattle.tez_ports.specs.Content.{Named, Store, Told}
 use Rattle.tez_conf.specs.declared.values.ConfValues.{ConfValues}
 use Rattle.tez_events.specs.declared.Entry.{Entry}
 use Rattle.tez_meaning.specs.Jobs.{Job}
+use Rattle.tez_history.specs.History.{Past}
+use Rattle.tez_sinks.specs.Sinks.{TasksWereStaged}
 use Rattle.tez_world.specs.Lawful.{IsTrace}
 use Rattle.tez_am.specs.Accept.{IsJob, IsAccepted, IsDag}
-use Rattle.tez_am.specs.Call.{Writes, Call, Wrote, WrotePart}
-use Rattle.tez_am.specs.Cause.{Refusal, ForJob, Cause, IsTextOf, Leaves, MayPublish, SaidNoMemory, Writing}
+use Rattle.tez_am.specs.Call.{Stored, Writes, Call, Wrote, WrotePart}
+use Rattle.tez_am.specs.Cause.{Refusal, ForJob, Cause, IsTextOf, Leaves, MayPublish, SaidNoMemory, Writing, HasStaged}
 use Rattle.tez_am.specs.Publish.{publications, Publishes, RunCause}
 use Rattle.tez_am.specs.Run.{HasText}
 use Rattle.tez_am.specs.Say.{Said, answer_of, failure_text, status_of, text_of}
@@ -21,7 +23,7 @@ use Rattle.tez_am.specs.declared.failure.Failure.{Failure}
 use Rattle.tez_am.specs.declared.failure.Failure.TheVariants.{Because, Spent}
 use Rattle.tez_am.specs.declared.status.Device.TheVariants as device
 use Rattle.tez_am.specs.declared.status.Status.{Status}
-use Rattle.tez_am.specs.declared.status.Status.TheVariants.{Succeeded, Usage, DagRefused, InputMissing, InputTooLarge, InputFault, SinkExists, AttemptsSpent, DeviceFault, OutFault, NoMemory}
+use Rattle.tez_am.specs.declared.status.Status.TheVariants.{Succeeded, Usage, DagRefused, InputMissing, InputTooLarge, InputFault, SinkExists, AttemptsSpent, DeviceFault, MeaningUndefined, OutFault, NoMemory}
 
 -- P of the answer, from P of all that it may be
 pub answered : (P : Status → Type 0) (status : Status) (text : List ℕ) (out : Writes) (answer : Status) → Said status text out answer
@@ -175,6 +177,28 @@ pub run_ends : (c : Call) (word : List ℕ) (job : Job) → dag_word c.words ≡
 run_ends c word job is at (Ok text) answer tells done cause names said = success_ends c job (λ m t. at_word IsJob (dag_word c.words) word m (Ok job) is (at m t)) text answer tells done said
 run_ends c word job is at (Err f) answer tells done cause names said = failure_ends c job (λ m t. at_word IsJob (dag_word c.words) word m (Ok job) is (at m t)) f answer cause names said
 
-pub run_traced : (words : List (List ℕ)) (files : Option Named) (word : List ℕ) (job : Job) (conf : ConfValues) (entries : List Entry) → dag_word words ≡ Some word → Told files (λ m. IsJob (Some word) m (Ok job)) → Told files (λ m. IsDag (Some word) m (Ok (job.plan, conf)))
-    → IsTrace job conf (reverse entries) → Told files (λ m. (j : Job) × (c : ConfValues) × IsAccepted words m (Ok j) × IsDag (dag_word words) m (Ok (j.plan, c)) × IsTrace j c (reverse entries))
-run_traced words files word job conf entries is at said trace = λ m t. (job, conf, at_word IsJob (dag_word words) word m (Ok job) is (at m t), at_word IsDag (dag_word words) word m (Ok (job.plan, conf)) is (said m t), trace)
+-- what was staged at a success
+
+staged_short : (store : Stored) (job : Job) (past : Past) (s : Status) → RunCause job store s → HasStaged store.new s job past
+staged_short store job past Succeeded h = absurd h
+staged_short store job past Usage h = tt
+staged_short store job past (DagRefused f) h = tt
+staged_short store job past (InputMissing n) h = tt
+staged_short store job past (InputTooLarge n) h = tt
+staged_short store job past (InputFault n) h = tt
+staged_short store job past (SinkExists n) h = tt
+staged_short store job past (AttemptsSpent vertex task) h = tt
+staged_short store job past (DeviceFault d) h = tt
+staged_short store job past (MeaningUndefined n) h = tt
+staged_short store job past OutFault h = tt
+staged_short store job past NoMemory h = tt
+
+pub run_stages : (store : Stored) (out : Writes) (job : Job) (past : Past) (ended : Result (List ℕ) Failure) (answer : Status) → OnOk ended (Told store.new (λ s. TasksWereStaged job past s.stage_calls)) → IfErr ended (λ f. RunCause job store (status_of f))
+    → Said (answer_of ended) (text_of ended) out answer → HasStaged store.new answer job past
+run_stages store out job past (Ok text) answer staged cause said = answered (λ s. HasStaged store.new s job past) Succeeded text out answer said (λ wrote. staged) (λ other rose part. tt) (λ short. tt)
+run_stages store out job past (Err f) answer staged cause said = answered (λ s. HasStaged store.new s job past) (status_of f) (failure_text f) out answer said (λ wrote. staged_short store job past (status_of f) cause) (λ other rose part. tt) (λ short. tt)
+
+pub run_traced : (words : List (List ℕ)) (files : Option Named) (store : Option Store) (answer : Status) (word : List ℕ) (job : Job) (conf : ConfValues) (entries : List Entry) → dag_word words ≡ Some word → Told files (λ m. IsJob (Some word) m (Ok job)) → Told files (λ m. IsDag (Some word) m (Ok (job.plan, conf)))
+    → IsTrace job conf (reverse entries) → HasStaged store answer job (reverse entries)
+    → Told files (λ m. (j : Job) × (c : ConfValues) × IsAccepted words m (Ok j) × IsDag (dag_word words) m (Ok (j.plan, c)) × IsTrace j c (reverse entries) × HasStaged store answer j (reverse entries))
+run_traced words files store answer word job conf entries is at said trace staged = λ m t. (job, conf, at_word IsJob (dag_word words) word m (Ok job) is (at m t), at_word IsDag (dag_word words) word m (Ok (job.plan, conf)) is (said m t), trace, staged)

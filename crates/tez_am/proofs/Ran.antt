@@ -2,6 +2,7 @@
 --     stands_first                where nothing was done, the store stands
 --     success_publishes           a success published each sink once
 --     cause_of, text_of_failure   why it gave no success, and the text of that
+--     success_staged, run_staged  a success staged each task of a vertex with a sink
 --     short_of                    where memory is short
 use Rattle.std.proofs.Common.{◌≡◌, ◌≢◌, ℕ, List, [], ◌∷◌, ◌++◌, take, length, Option, Some, None, Result, Ok, Err, IfOk, IfErr, OnOk, OnErr, refl, inl, inr, ◌∙◌, sym, ap, subst, append-nil, take_all, le_refl}
 use Rattle.std.specs.List.{AllByRecursion}
@@ -12,7 +13,7 @@ use Rattle.tez_meaning.specs.Jobs.{Job}
 use Rattle.tez_meaning.specs.Value.{sink_texts}
 use Rattle.tez_meaning.specs.Published.{published}
 use Rattle.tez_history.specs.History.{Past}
-use Rattle.tez_sinks.specs.Sinks.{sink_name, published_view, HasNoSink}
+use Rattle.tez_sinks.specs.Sinks.{sink_name, published_view, TasksWereStaged, HasNoSink}
 use Rattle.tez_keeping.specs.Store.{HasPublished, WasClear}
 use Rattle.tez_world.specs.Lawful.{IsTrace}
 use Rattle.tez_world.specs.World.{Down, Over, Notes, RunParts, Stands, StoreAfter}
@@ -117,6 +118,13 @@ module _ (job : Job) (c : ConfValues) (r0 r1 : RunParts) (old new : Option Store
   success_tells (AttemptsSpent t) text to h = absurd to
   success_tells (DeviceFault d) text to h = absurd to
 
+  -- each task of a vertex with a sink was staged
+  pub success_staged : (v : Verdict) (text : List ℕ) → IsToldBy job v text → HasEnded (At r0 old f0 p0) (At r1 new f1 p1) v → Told new (λ t. TasksWereStaged job r1.past t.stage_calls)
+  success_staged (Succeeded pairs) text to h = λ t k. let s = told_too new old (sym h.later.told) t k in (after_at (Succeeded pairs) (from_first (Succeeded pairs) h) s.0 s.1 t k).2
+  success_staged (SinkExists v) text to h = absurd to
+  success_staged (AttemptsSpent t) text to h = absurd to
+  success_staged (DeviceFault d) text to h = absurd to
+
   abbrev Because_of : Failure → Type 0
   Because_of f = RunCause job kept (status_of f)
 
@@ -207,6 +215,18 @@ run_ends job c r0 r1 old new f0 f1 p0 p1 is valid (Err e) (Err f) h on in_order 
   cause = subst (λ g. RunCause job (record { old = old; new = new; before = f0; now = f1; stops_before = p0; stops_now = p1 }) (status_of g)) (sym to) (short_of job c r0 r1 old new f0 f1 p0 p1 is valid on in_order);
   failure_text = named_text job f (Because status.NoMemory) to tt;
 }
+
+pub run_staged : {E : Type 0} (job : Job) (c : ConfValues) (r0 r1 : RunParts) (old new : Option Store) (f0 f1 p0 p1 : ℕ) → r0 ≡ first job c → IsValid job.plan → (ended : Result Verdict E) (answer : Result (List ℕ) Failure)
+    → IfOk ended (HasEnded (At r0 old f0 p0) (At r1 new f1 p1)) → (j : Job) → j ≡ job → ComesTo j ended answer → OnOk answer (Told new (λ t. TasksWereStaged job r1.past t.stage_calls))
+run_staged job c r0 r1 old new f0 f1 p0 p1 is valid (Ok v) (Ok text) h j one to =
+    success_staged job c r0 r1 old new f0 f1 p0 p1 is valid v text (subst (λ x. IsToldBy x v text) one to) h
+run_staged job c r0 r1 old new f0 f1 p0 p1 is valid (Ok v) (Err f) h j one to = tt
+run_staged job c r0 r1 old new f0 f1 p0 p1 is valid (Err e) (Ok text) h j one to = absurd to
+run_staged job c r0 r1 old new f0 f1 p0 p1 is valid (Err e) (Err f) h j one to = tt
+
+pub staged_later : (job : Job) (o : Option Store) (answer : Result (List ℕ) Failure) (past later : Past) → later ≡ past → OnOk answer (Told o (λ t. TasksWereStaged job past t.stage_calls)) → OnOk answer (Told o (λ t. TasksWereStaged job later t.stage_calls))
+staged_later job o (Ok text) past later is h = subst (λ (p : Past). Told o (λ t. TasksWereStaged job p t.stage_calls)) (sym is) h
+staged_later job o (Err f) past later is h = tt
 
 pub run_sure : {E : Type 0} (job : Job) (ended : Result Verdict E) (answer : Result (List ℕ) Failure) → IfOk ended IsSure → ComesTo job ended answer → IfErr answer (λ f. status_of f ≢ status.DeviceFault called.Store)
 run_sure job (Ok v) (Ok text) sure to = tt

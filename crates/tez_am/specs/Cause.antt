@@ -1,11 +1,13 @@
 -- When each answer comes, and what it leaves.
-use Rattle.std.specs.Prelude.{◌≡◌, ◌⊎◌, ⊤, ℕ, true, List, reverse, codes, Some, None, Result, Ok, Err}
+use Rattle.std.specs.Prelude.{◌≡◌, ◌⊎◌, ⊤, ℕ, true, List, reverse, codes, Option, Some, None, Result, Ok, Err}
 use Rattle.tez_ports.specs.Causes.{Rose}
-use Rattle.tez_ports.specs.Content.{Named, Told}
+use Rattle.tez_ports.specs.Content.{Named, Store, Told}
 use Rattle.tez_conf.specs.declared.values.ConfValues.{ConfValues}
 use Rattle.tez_events.specs.declared.Entry.{Entry}
 use Rattle.tez_meaning.specs.Jobs.{Job}
 use Rattle.tez_meaning.specs.Value.{bad}
+use Rattle.tez_history.specs.History.{Past}
+use Rattle.tez_sinks.specs.Sinks.{TasksWereStaged}
 use Rattle.tez_world.specs.Lawful.{IsTrace}
 use Rattle.tez_am.specs.Accept.{IsAccepted, IsDag}
 use Rattle.tez_am.specs.Call.{Reads, Writes, Call, StoreFailed, Wrote, WrotePart}
@@ -131,6 +133,21 @@ Writing c NoMemory = SaidNoMemory c.out
 
 -- ---- the trace
 
+-- a success staged each task of a vertex with a sink, with the text of what the task is to make
+abbrev pub HasStaged : Option Store → Status → Job → Past → Type 0
+HasStaged store Succeeded job past = Told store (λ s. TasksWereStaged job past s.stage_calls)
+HasStaged store Usage job past = ⊤
+HasStaged store (DagRefused fault) job past = ⊤
+HasStaged store (InputMissing name) job past = ⊤
+HasStaged store (InputTooLarge name) job past = ⊤
+HasStaged store (InputFault name) job past = ⊤
+HasStaged store (SinkExists name) job past = ⊤
+HasStaged store (AttemptsSpent vertex task) job past = ⊤
+HasStaged store (DeviceFault d) job past = ⊤
+HasStaged store (MeaningUndefined name) job past = ⊤
+HasStaged store OutFault job past = ⊤
+HasStaged store NoMemory job past = ⊤
+
 -- the entries are those of a run of the job in the configuration that its DAG file gives, which is lawful
-abbrev pub HasTrace : Call → List Entry → Type 0
-HasTrace c entries = Told c.reads.files (λ m. (job : Job) × (conf : ConfValues) × IsAccepted c.words m (Ok job) × IsDag (dag_word c.words) m (Ok (job.plan, conf)) × IsTrace job conf (reverse entries))
+abbrev pub HasTrace : Call → Status → List Entry → Type 0
+HasTrace c status entries = Told c.reads.files (λ m. (job : Job) × (conf : ConfValues) × IsAccepted c.words m (Ok job) × IsDag (dag_word c.words) m (Ok (job.plan, conf)) × IsTrace job conf (reverse entries) × HasStaged c.store.new status job (reverse entries))

@@ -1,6 +1,8 @@
 // A job, run to the publication of its sinks. The store alone is touched.
 ghost use Rattle.std.specs.Prelude.{◌≢◌, reverse, IfOk, IfErr, OnOk};
 ghost use Rattle.tez_plan.specs.Faults.{IsValid};
+ghost use Rattle.tez_ports.specs.Content.{Told};
+ghost use Rattle.tez_sinks.specs.Sinks.{TasksWereStaged};
 ghost use Rattle.tez_world.specs.Lawful.{IsTrace};
 ghost use Rattle.tez_am.specs.Call.{stored_of};
 ghost use Rattle.tez_am.specs.Answer.{TellsSinks};
@@ -46,6 +48,7 @@ pub fn run<S: OutputStore>(
     ensures published { OnOk result (Publishes job (stored_of S.store S.faults S.stops store.old store.new)) }
     ensures cause { IfErr result (λ f. RunCause job (stored_of S.store S.faults S.stops store.old store.new) (status_of f)) }
     ensures trace { IsTrace job conf (reverse log.new.entries) }
+    ensures staged { OnOk result (Told (S.store store.new) (λ s. TasksWereStaged job (reverse log.new.entries) s.stage_calls)) }
     ensures failure_text { IfErr result (HasText job) }
     ensures sure { S.is_sure store.old → IfErr result (λ f. status_of f ≢ Status.DeviceFault Device.Store) }
 {

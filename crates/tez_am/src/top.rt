@@ -52,13 +52,15 @@ pub fn am_run<F: InputFiles, S: OutputStore, D: JournalDisk, O: TextOut, G: Gate
       store = stored_of S.store S.faults S.stops store.old store.new;
       out = writes_of O.written O.faults out.old out.new;
     }) result }
-    // Where a job was run, the log has its trace, which is lawful; else it is as it was.
+    // Where a job was run, the log has its trace, which is lawful: each order had exactly its inputs, each
+    // from a winner, and no rule of traces is broken. A success staged each task of a vertex with a sink.
+    // Else the log is as it was.
     ensures trace { (log.new ≡ log.old) ⊎ HasTrace (record {
       words = map string_bytes words.now;
       reads = reads_of F.files F.faults F.failed files.old files.new;
       store = stored_of S.store S.faults S.stops store.old store.new;
       out = writes_of O.written O.faults out.old out.new;
-    }) log.new.entries }
+    }) result log.new.entries }
     // Each answer comes where it is due, unless a device fails or memory is short.
     ensures usage { dag_word (map string_bytes words.now) ≡ None → IsAnswer Status.Usage result }
     ensures rows { Told (F.files files.old) (λ m. KeepsRows (map string_bytes words.now) m (S.store store.old) result) }

@@ -139,7 +139,7 @@ begun_holds job c texts sums valid ranges range rows = record {
 
 pub begun_store : (job : Job) (s : Store) → StoreStands job s.publications [] s
 begun_store job s = record {
-  right = record { staged = λ p t w name k h. cc; readied = λ p v name k h n. cc; publications = sym (append-nil s.publications) };
+  right = record { staged = λ p t w name k h. cc; called = λ t w name k h. cc; readied = λ p v name k h n. cc; publications = sym (append-nil s.publications) };
   clear = tt;
 }
 

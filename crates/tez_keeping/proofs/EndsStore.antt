@@ -1,5 +1,6 @@
 -- What the store of the outputs holds after each step of a master, and what was published.
 --     store_event, store_report, store_ready, store_publish, store_purge     each step
+--     tasks_stored         at the purge each task of a vertex with a sink was staged
 --     published_first      what is published is a first part of the sinks
 --     unpublished          nothing is, before the commit starts
 use Rattle.std.specs.Prelude.{◌≡◌, ℕ, Bool, true, false, List, [], ◌∷◌, ◌++◌, map, take, length, Some, None, refl}
@@ -9,6 +10,7 @@ use Rattle.tez_ids.specs.declared.AttemptId.{AttemptId}
 use Rattle.tez_ids.specs.declared.VertexId.{VertexId}
 use Rattle.tez_ports.specs.Content.{Named, Store, bytes_of, staged_at, stages, publishes, purges}
 use Rattle.tez_commit.specs.Merge.{AreStaged, merged, prepares}
+use Rattle.tez_lists.specs.Numbers.{In}
 use Rattle.tez_record.specs.Bag.{text}
 use Rattle.tez_conf.specs.declared.values.ConfValues.{ConfValues}
 use Rattle.tez_meaning.specs.Jobs.{Job}
@@ -22,14 +24,15 @@ use Rattle.tez_history.specs.Steps.{entries_of, done_entries}
 use Rattle.tez_history.specs.Follows.{IsMade}
 use Rattle.tez_laws.specs.Laws.{place_in}
 use Rattle.tez_laws.proofs.Places.{stands}
-use Rattle.tez_laws.proofs.StepLaw.{made-extend, event_may}
+use Rattle.tez_laws.proofs.StepLaw.{both, made-extend, event_may}
 use Rattle.tez_progress.proofs.Members.{clash}
 use Rattle.tez_pool_view.proofs.Committing.{none_holds}
 use Rattle.tez_contents.specs.Contents.{made}
 use Rattle.tez_contents.specs.Laws.{HasNone}
 use Rattle.tez_control.specs.Enabled.{enabled_in}
 use Rattle.tez_control.specs.Read.{processes}
-use Rattle.tez_sinks.specs.Sinks.{sink_of, sink_name, sink_entry, published_view, StoreIsRight, HasNoSink, IsOfNoSink}
+use Rattle.tez_sinks.specs.Sinks.{sink_of, sink_name, sink_entry, published_view, StoreIsRight, TasksWereStaged, HasNoSink, IsOfNoSink}
+use Rattle.tez_sinks.proofs.Called.{tasks_staged}
 use Rattle.tez_sinks.proofs.Names.{entries_are}
 use Rattle.tez_sinks.proofs.Publications.{view_splits}
 use Rattle.tez_sinks.proofs.Quiet.{quiet_step, quiet_store}
@@ -37,6 +40,7 @@ use Rattle.tez_sinks.proofs.Stores.{staged_store, reported_staged, reported_plai
 use Rattle.tez_sinks.proofs.Commits.{ready_staged, ready_merged, ready_right, ready_harmless, publish_found, publish_right}
 use Rattle.tez_keeping.specs.Keeping.{Parts, Holds, is_stop}
 use Rattle.tez_keeping.specs.Store.{HasPublished, WasClear, StoreStands}
+use Rattle.tez_keeping.proofs.EndsCommit.{finished_committing}
 use Rattle.tez_keeping.proofs.EndsMaster.{is_enabled, runs_now, no_sink_masters}
 
 -- ---- a store that was clear
@@ -77,13 +81,13 @@ pub store_no_sink : (job : Job) (c : ConfValues) (ps : Parts) (past : Past) (a :
     → sink_of job.plan a.task.vertex.0 ≡ None → StoreStands job before past s → StoreStands job before (extend past (done_entries a bytes)) s
 store_no_sink job c ps past a bytes before s h on none k =
     let runs = runs_now job c ps past a h on in
-    stands_next job before past (extend past (done_entries a bytes)) s s h.up k (reported_plain job c past a bytes h.well.made runs before s (λ name s. cc) k.right)
+    stands_next job before past (extend past (done_entries a bytes)) s s h.up k (reported_plain job c past a bytes h.well.made runs before s (λ name s. cc) (λ name s. cc) k.right)
 
 pub store_was_staged : (job : Job) (c : ConfValues) (ps : Parts) (past : Past) (a : AttemptId) (bytes : List (ℕ × ℕ)) (before : Named) (s : Store) → Holds job c ps past → processes ps.master a ≡ true
-    → staged_at a s.staged ≡ Some (text (made job a past)) → StoreStands job before past s → StoreStands job before (extend past (done_entries a bytes)) s
-store_was_staged job c ps past a bytes before s h on there k =
+    → staged_at a s.staged ≡ Some (text (made job a past)) → In (a, text (made job a past)) s.stage_calls → StoreStands job before past s → StoreStands job before (extend past (done_entries a bytes)) s
+store_was_staged job c ps past a bytes before s h on there called k =
     let runs = runs_now job c ps past a h on in
-    stands_next job before past (extend past (done_entries a bytes)) s s h.up k (reported_plain job c past a bytes h.well.made runs before s (λ name n. there) k.right)
+    stands_next job before past (extend past (done_entries a bytes)) s s h.up k (reported_plain job c past a bytes h.well.made runs before s (λ name n. there) (λ name n. called) k.right)
 
 pub winners_staged : (job : Job) (c : ConfValues) (ps : Parts) (past : Past) (v : VertexId) (before : Named) (s : Store) → Holds job c ps past → enabled_in ps.master (Ready v) ≡ true → StoreStands job before past s
     → AreStaged s.staged (winners_of v.0 (task_count job.plan v.0 past) past)
@@ -175,3 +179,11 @@ before_commit job c ps past a h on = by (is_committing past) refl where
 
 pub store_processing : (job : Job) (c : ConfValues) (ps : Parts) (past : Past) (a : AttemptId) (before : Named) (s : Store) → Holds job c ps past → processes ps.master a ≡ true → StoreStands job before past s → s.publications ≡ before
 store_processing job c ps past a before s h on k = store_before_commit job c ps past before s h (before_commit job c ps past a h on) k
+
+-- the job is finished, so every task has a winner
+pub tasks_stored : (job : Job) (c : ConfValues) (ps : Parts) (past : Past) (before : Named) (s : Store) → Holds job c ps past → enabled_in ps.master Purge ≡ true → StoreStands job before past s
+    → TasksWereStaged job (extend past (entries_of job.plan c past Purge)) s.stage_calls
+tasks_stored job c ps past before s h on k =
+    let end = (both {x = is_up past} (is_enabled job c ps past Purge h tt on)).1 in
+    let committing = finished_committing job c past h.well.made h.none_over h.none_stopped end in
+    tasks_staged job c past s.stage_calls h.well (h.well.whole.committing h.up committing) k.right.called

@@ -2,6 +2,7 @@
 ghost use Rattle.std.specs.Prelude.{◌≡◌, ℕ, List, Some, None, true, false};
 ghost use Rattle.tez_ids.specs.declared.AttemptId.{AttemptId};
 ghost use Rattle.tez_ids.specs.declared.VertexId.{VertexId};
+ghost use Rattle.tez_lists.specs.Numbers.{In};
 ghost use Rattle.tez_record.specs.Bag.{text};
 ghost use Rattle.tez_ports.specs.Content.{Named, Store, bytes_of, staged_at, stages, publishes, purges};
 ghost use Rattle.tez_commit.specs.Merge.{AreStaged, merged, prepares};
@@ -16,7 +17,7 @@ ghost use Rattle.tez_history.specs.Steps.{entries_of, done_entries};
 ghost use Rattle.tez_contents.specs.Contents.{made};
 ghost use Rattle.tez_control.specs.Enabled.{enabled_in};
 ghost use Rattle.tez_control.specs.Read.{processes};
-ghost use Rattle.tez_sinks.specs.Sinks.{sink_of, sink_name, IsOfNoSink};
+ghost use Rattle.tez_sinks.specs.Sinks.{sink_of, sink_name, TasksWereStaged, IsOfNoSink};
 ghost use Rattle.tez_keeping.specs.Keeping.{Parts, Holds};
 ghost use Rattle.tez_keeping.specs.Store.{HasPublished, StoreStands};
 
@@ -30,13 +31,14 @@ pub fn events_leave_the_store()
 pub fn reports_are_staged()
     ensures staging { (job : Job) (c : ConfValues) (ps : Parts) (past : Past) (a : AttemptId) (bytes : List ℕ) (before : Named) (s : Store) → Holds job c ps past → processes ps.master a ≡ true → StoreStands job before past s → StoreStands job before past (stages a bytes s) }
     ensures staged { (job : Job) (c : ConfValues) (ps : Parts) (past : Past) (a : AttemptId) (bytes : List (ℕ × ℕ)) (before : Named) (s : Store) → Holds job c ps past → processes ps.master a ≡ true → StoreStands job before past s → StoreStands job before (extend past (done_entries a bytes)) (stages a (text (made job a past)) s) }
-    ensures was_staged { (job : Job) (c : ConfValues) (ps : Parts) (past : Past) (a : AttemptId) (bytes : List (ℕ × ℕ)) (before : Named) (s : Store) → Holds job c ps past → processes ps.master a ≡ true → staged_at a s.staged ≡ Some (text (made job a past)) → StoreStands job before past s → StoreStands job before (extend past (done_entries a bytes)) s }
+    ensures was_staged { (job : Job) (c : ConfValues) (ps : Parts) (past : Past) (a : AttemptId) (bytes : List (ℕ × ℕ)) (before : Named) (s : Store) → Holds job c ps past → processes ps.master a ≡ true → staged_at a s.staged ≡ Some (text (made job a past)) → In (a, text (made job a past)) s.stage_calls → StoreStands job before past s → StoreStands job before (extend past (done_entries a bytes)) s }
     ensures no_sink { (job : Job) (c : ConfValues) (ps : Parts) (past : Past) (a : AttemptId) (bytes : List (ℕ × ℕ)) (before : Named) (s : Store) → Holds job c ps past → processes ps.master a ≡ true → sink_of job.plan a.task.vertex.0 ≡ None → StoreStands job before past s → StoreStands job before (extend past (done_entries a bytes)) s }
 {}
 
 /// When a sink is to be readied the winners of its vertex are staged, and their merge is what the
 /// vertex makes; to prepare it does no harm. When it is to be published its text was put aside. Once a
-/// sink is readied or published, or all that is left over is purged, the store is as it is to be.
+/// sink is readied or published, or all that is left over is purged, the store is as it is to be. When all is
+/// to be purged, each task of a vertex with a sink was staged with the text of what it is to make.
 pub fn sinks_are_stored()
     ensures staged { (job : Job) (c : ConfValues) (ps : Parts) (past : Past) (v : VertexId) (before : Named) (s : Store) → Holds job c ps past → enabled_in ps.master (Ready v) ≡ true → StoreStands job before past s → AreStaged s.staged (winners_of v.0 (task_count job.plan v.0 past) past) }
     ensures merged { (job : Job) (c : ConfValues) (ps : Parts) (past : Past) (v : VertexId) (before : Named) (s : Store) → Holds job c ps past → enabled_in ps.master (Ready v) ≡ true → StoreStands job before past s → merged s.staged (winners_of v.0 (task_count job.plan v.0 past) past) ≡ value job v.0 }
@@ -45,6 +47,7 @@ pub fn sinks_are_stored()
     ensures ready { (job : Job) (c : ConfValues) (ps : Parts) (past : Past) (v : VertexId) (before : Named) (s : Store) → Holds job c ps past → enabled_in ps.master (Ready v) ≡ true → StoreStands job before past s → StoreStands job before (extend past (entries_of job.plan c past (Ready v))) (prepares (winners_of v.0 (task_count job.plan v.0 past) past) (sink_name job.plan v.0) s) }
     ensures publish { (job : Job) (c : ConfValues) (ps : Parts) (past : Past) (v : VertexId) (before : Named) (s : Store) → Holds job c ps past → enabled_in ps.master (Publish v) ≡ true → StoreStands job before past s → StoreStands job before (extend past (entries_of job.plan c past (Publish v))) (publishes (sink_name job.plan v.0) s) }
     ensures purge { (job : Job) (c : ConfValues) (ps : Parts) (past : Past) (before : Named) (s : Store) → Holds job c ps past → StoreStands job before past s → StoreStands job before (extend past (entries_of job.plan c past Purge)) (purges s) }
+    ensures whole { (job : Job) (c : ConfValues) (ps : Parts) (past : Past) (before : Named) (s : Store) → Holds job c ps past → enabled_in ps.master Purge ≡ true → StoreStands job before past s → TasksWereStaged job (extend past (entries_of job.plan c past Purge)) s.stage_calls }
 {}
 
 /// What was published since the first master is a first part of the sinks, each with its text; so it is

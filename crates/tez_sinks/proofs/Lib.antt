@@ -9,3 +9,4 @@ pub mod Stores
 pub mod Bads
 pub mod Wells
 pub mod Commits
+pub mod Called

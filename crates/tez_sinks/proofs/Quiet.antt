@@ -11,6 +11,7 @@ use Rattle.tez_ids.specs.declared.TaskId.{TaskId}
 use Rattle.tez_ids.specs.declared.AttemptId.{AttemptId}
 use Rattle.tez_ids.specs.Same.{same_attempt}
 use Rattle.tez_ids.proofs.Sameness.{same_attempt-true}
+use Rattle.tez_lists.specs.Numbers.{In}
 use Rattle.tez_record.specs.Bag.{text}
 use Rattle.tez_ports.specs.Content.{Named, Store}
 use Rattle.tez_plan.specs.Dag.{Dag, edge}
@@ -136,6 +137,7 @@ quiet_all job c past (e ∷ es) m f h =
 pub quiet_store : (job : Job) (past later : Past) (before : Named) (store : Store) → IsQuiet job past later → StoreIsRight job past before store → StoreIsRight job later before store
 quiet_store job past later before store q r = record {
   staged = λ p t w name s k. r.staged (sym q.purged ∙ p) t w name s (q.winners t w k) ∙ ap (λ rs. Some (text rs)) (sym (q.makes t w k));
+  called = λ t w name s k. subst (λ rs. In (w, text rs) store.stage_calls) (sym (q.makes t w k)) (r.called t w name s (q.winners t w k));
   readied = λ p v name s k n. r.readied (sym q.purged ∙ p) v name s (q.readied v k) (sym (q.published v) ∙ n);
   publications = r.publications ∙ ap (λ xs. before ++ xs) (sym q.view);
 }

@@ -9,7 +9,7 @@
 --     event_good, reported_good      winners stay good
 use Rattle.std.specs.Prelude.{◌≡◌, ℕ, ◌==◌, ◌||◌, Bool, true, false, IsTrue, if◌then◌else◌, List, [], ◌∷◌, ◌++◌, map, Option, Some, None, is_some, refl}
 use Rattle.std.specs.List.{AllByRecursion, filter_map, cons_option}
-use Rattle.std.proofs.Common.{ap, sym, ◌∙◌, subst, append_assoc}
+use Rattle.std.proofs.Common.{inl, ap, sym, ◌∙◌, subst, append_assoc}
 use Rattle.std.proofs.lemmas.List.{append-nil}
 use Rattle.std.proofs.lemmas.Bool.{eqb-true, eq-eqb, or_left, or_parts}
 use Rattle.tez_ids.specs.declared.TaskId.{TaskId}
@@ -18,6 +18,8 @@ use Rattle.tez_ids.specs.declared.Epoch.{Epoch}
 use Rattle.tez_ids.specs.declared.VertexId.{VertexId}
 use Rattle.tez_ids.specs.Same.{task, same_task}
 use Rattle.tez_ids.proofs.Sameness.{same_task-true}
+use Rattle.tez_lists.specs.Numbers.{In}
+use Rattle.tez_lists.proofs.Members.{in_append_left, in_append_right}
 use Rattle.tez_record.specs.Line.{IsRecord}
 use Rattle.tez_record.specs.Bag.{text}
 use Rattle.tez_ports.specs.Content.{Named, Staged, Store, bytes_of, staged_at, stages, publishes, purges, moves, put, without}
@@ -57,6 +59,7 @@ staged_store job c past before store a bytes m runs r = record {
   staged = λ p t w name s k.
       staged_other w a bytes store.staged (λ e. alive_loses job.plan c past a t m (running_alive (stage a past) runs) (subst (λ x. winner t past ≡ Some x) (sym e) k))
       ∙ r.staged p t w name s k;
+  called = λ t w name s k. in_append_left (w, text (made job w past)) store.stage_calls ((a, bytes) ∷ []) (r.called t w name s k);
   readied = r.readied;
   publications = r.publications;
 }
@@ -71,11 +74,14 @@ won past a w t h P new old = by (same_task a.task t) refl h where
   by false e k = old k
 
 succeeded_store : (job : Job) (past : Past) (before : Named) (store : Store) (a : AttemptId) → ((name : List ℕ) → sink_of job.plan a.task.vertex.0 ≡ Some name → staged_at a store.staged ≡ Some (text (made job a past)))
+    → ((name : List ℕ) → sink_of job.plan a.task.vertex.0 ≡ Some name → In (a, text (made job a past)) store.stage_calls)
     → StoreIsRight job past before store → StoreIsRight job (Succeeded a ∷ past) before store
 unfolding made
-succeeded_store job past before store a there r = record {
+succeeded_store job past before store a there called r = record {
   staged = λ p t w name s k. won past a w t k (λ x. staged_at x store.staged ≡ Some (text (made job x past)))
       (λ same. there name (subst (λ (u : TaskId). sink_of job.plan u.vertex.0 ≡ Some name) (sym same) s)) (r.staged p t w name s);
+  called = λ t w name s k. won past a w t k (λ x. In (x, text (made job x past)) store.stage_calls)
+      (λ same. called name (subst (λ (u : TaskId). sink_of job.plan u.vertex.0 ≡ Some name) (sym same) s)) (r.called t w name s);
   readied = r.readied;
   publications = r.publications;
 }
@@ -88,15 +94,17 @@ module _ (job : Job) (c : ConfValues) (past : Past) (a : AttemptId) (bytes : Lis
   follow = done_may job.plan c past a bytes runs
 
   pub reported_plain : (before : Named) (store : Store) → ((name : List ℕ) → sink_of job.plan a.task.vertex.0 ≡ Some name → staged_at a store.staged ≡ Some (text (made job a past)))
+      → ((name : List ℕ) → sink_of job.plan a.task.vertex.0 ≡ Some name → In (a, text (made job a past)) store.stage_calls)
       → StoreIsRight job past before store → StoreIsRight job (extend past (done_entries a bytes)) before store
-  reported_plain before store there r =
+  reported_plain before store there called r =
       let later = map (λ m. Made a (edge m.0) m.1) bytes in
       quiet_store job (Succeeded a ∷ past) (extend (Succeeded a ∷ past) later) before store
-      (quiet_all job c (Succeeded a ∷ past) later (follow.0, m) follow.1 (quiet_report a bytes)) (succeeded_store job past before store a there r)
+      (quiet_all job c (Succeeded a ∷ past) later (follow.0, m) follow.1 (quiet_report a bytes)) (succeeded_store job past before store a there called r)
 
   pub reported_staged : (before : Named) (store : Store) → StoreIsRight job past before store → StoreIsRight job (extend past (done_entries a bytes)) before (stages a (text (made job a past)) store)
   reported_staged before store r =
       reported_plain before (stages a (text (made job a past)) store) (λ name s. staged_found a (text (made job a past)) store.staged)
+      (λ name s. in_append_right (a, text (made job a past)) store.stage_calls ((a, text (made job a past)) ∷ []) (inl refl))
       (staged_store job c past before store a (text (made job a past)) m runs r)
 
   pub reported_good : met_bad job a past ≡ false → WinnersAreGood job past → WinnersAreGood job (extend past (done_entries a bytes))
@@ -158,6 +166,7 @@ module _ (job : Job) (valid : IsValid job.plan) (past : Past) (before : Named) (
     pub prepared_store : StoreIsRight job past before (prepares winners name store)
     prepared_store = record {
       staged = r.staged;
+      called = r.called;
       readied = λ p u n s k free. stands_after p u n s (λ differ. r.readied p u n s k free);
       publications = r.publications;
     }
@@ -172,6 +181,7 @@ module _ (job : Job) (valid : IsValid job.plan) (past : Past) (before : Named) (
     unfolding made
     readied_store w is = record {
       staged = r.staged;
+      called = r.called;
       readied = λ p u n s k free. stands_after p u n s (λ differ. r.readied p u n s (or_other w.0 u (is_readied u past) (λ e. differ (sym is ∙ e)) k) free);
       publications = r.publications;
     }
@@ -181,6 +191,7 @@ module _ (job : Job) (valid : IsValid job.plan) (past : Past) (before : Named) (
   unfolding made
   published_store w is here = subst (StoreIsRight job (Published w ∷ past) before) (ap (moves name store) (sym here)) (record {
     staged = r.staged;
+    called = r.called;
     readied = λ p u n s k free. left p u n s k free (w.0 == u) refl;
     publications =
         ap (λ xs. xs ++ (name, sink_text job v) ∷ []) r.publications
@@ -195,7 +206,8 @@ module _ (job : Job) (valid : IsValid job.plan) (past : Past) (before : Named) (
         without_other n name store.readied (other_name u n s (λ same. clash (eq-eqb w.0 u (is ∙ same)) e)) ∙ r.readied p u n s k not_yet
 
 pub purged_store : (job : Job) (past : Past) (before : Named) (store : Store) → StoreIsRight job past before store → StoreIsRight job (Purged ∷ past) before (purges store)
-purged_store job past before store r = record { staged = λ p. cc; readied = λ p. cc; publications = r.publications }
+unfolding made
+purged_store job past before store r = record { staged = λ p. cc; called = r.called; readied = λ p. cc; publications = r.publications }
 
 -- ---- what is purged is finished
 
@@ -216,7 +228,7 @@ running_kept g c past m h = by (is_purged past) refl where
 -- ---- a master opens
 
 pub opened_store : (job : Job) (past : Past) (e : Epoch) (before : Named) (store : Store) → store.publications ≡ before ++ published_view job past → StoreIsRight job (Opened e ∷ past) before store
-opened_store job past e before store h = record { staged = λ p t w name s k. cc; readied = λ p v name s k free. cc; publications = h }
+opened_store job past e before store h = record { staged = λ p t w name s k. cc; called = λ t w name s k. cc; readied = λ p v name s k free. cc; publications = h }
 
 pub first_store : (job : Job) (e : Epoch) (store : Store) → StoreIsRight job (Opened e ∷ []) store.publications store
 first_store job e store = opened_store job [] e store.publications store (sym (append-nil store.publications))

@@ -4,16 +4,21 @@
 --     readied_sums job past         the records and bytes of the sinks that are readied, in order of time
 --     is_purged past                all that was put aside was thrown away since the last open
 --     WinnersAreStaged job past staged      each winner of a vertex with a sink staged the text of its records
+--     WinnersWereStaged job past calls      each such winner was staged with the text of its records, in a call
+--     TasksWereStaged job past calls        each task of such a vertex has a winner, which was staged with the text of what the task is to make
 --     SinksAreReadied job past readied      the text of each sink that is readied, and not published yet, was put aside
---     StoreIsRight job past before store    both until the purge, and this history was published after what had been before
+--     StoreIsRight job past before store    the first and the last until the purge, the calls always, and this history was
+--                                           published after what had been before
 --     WinnersAreGood job past       no winner read a bad record
 --     HasNoSink job before          no sink of the job was published before
 --     IsOfNoSink e                  an event of a master that readies, publishes and purges nothing
-use Rattle.std.specs.Prelude.{◌≡◌, ⊤, ℕ, Bool, true, false, List, [], ◌∷◌, ◌++◌, length, Option, Some, None, unwrap_or, slice_get}
+use Rattle.std.specs.Prelude.{◌≡◌, ◌<◌, ⊤, ℕ, Bool, true, false, List, [], ◌∷◌, ◌++◌, length, Option, Some, None, unwrap_or, slice_get}
 use Rattle.std.specs.List.{AllByRecursion}
 use Rattle.std.specs.Option.{option_map_or}
 use Rattle.tez_ids.specs.declared.TaskId.{TaskId}
 use Rattle.tez_ids.specs.declared.AttemptId.{AttemptId}
+use Rattle.tez_ids.specs.Same.{task}
+use Rattle.tez_lists.specs.Numbers.{In}
 use Rattle.tez_record.specs.Bag.{text}
 use Rattle.tez_ports.specs.Content.{Named, Staged, Store, bytes_of, staged_at}
 use Rattle.tez_plan.specs.Dag.{Dag}
@@ -25,7 +30,9 @@ use Rattle.tez_events.specs.declared.Entry.TheVariants.{Opened, Over, Rerun, Rea
 use Rattle.tez_events.specs.declared.CoreEvent.{CoreEvent}
 use Rattle.tez_events.specs.declared.CoreEvent.TheVariants.{Open, Configure, Queue, Place, Fetch, Send, Preempt, Fail, LoseNode, LoseOutput, Restart, Ready as ReadySink, CommitStart, Publish, Finish, Purge}
 use Rattle.tez_history.specs.History.{Past, winner, is_readied, is_published}
+use Rattle.tez_history.specs.Derived.{task_count}
 use Rattle.tez_contents.specs.Contents.{made, met_bad}
+use Rattle.tez_contents.specs.Laws.{task_makes}
 
 abbrev pub sink_of : Dag → ℕ → Option (List ℕ)
 sink_of g v = option_map_or (λ s. s.sink) (slice_get g.vertices v) None
@@ -67,6 +74,16 @@ WinnersAreStaged job past staged =
     (t : TaskId) (w : AttemptId) (name : List ℕ) → sink_of job.plan t.vertex.0 ≡ Some name → winner t past ≡ Some w
     → staged_at w staged ≡ Some (text (made job w past))
 
+abbrev pub WinnersWereStaged : Job → Past → Staged → Type 0
+WinnersWereStaged job past calls =
+    (t : TaskId) (w : AttemptId) (name : List ℕ) → sink_of job.plan t.vertex.0 ≡ Some name → winner t past ≡ Some w
+    → In (w, text (made job w past)) calls
+
+abbrev pub TasksWereStaged : Job → Past → Staged → Type 0
+TasksWereStaged job past calls =
+    (v i : ℕ) (name : List ℕ) → sink_of job.plan v ≡ Some name → i < task_count job.plan v past
+    → (w : AttemptId) × (winner (task v i) past ≡ Some w) × In (w, text (task_makes job past (task v i))) calls
+
 abbrev pub SinksAreReadied : Job → Past → Named → Type 0
 SinksAreReadied job past readied =
     (v : ℕ) (name : List ℕ) → sink_of job.plan v ≡ Some name → is_readied v past ≡ true → is_published v past ≡ false
@@ -74,6 +91,7 @@ SinksAreReadied job past readied =
 
 pub record StoreIsRight (job : Job) (past : Past) (before : Named) (store : Store) : Type 0 where
   pub staged : is_purged past ≡ false → WinnersAreStaged job past store.staged
+  pub called : WinnersWereStaged job past store.stage_calls
   pub readied : is_purged past ≡ false → SinksAreReadied job past store.readied
   pub publications : store.publications ≡ before ++ published_view job past
 

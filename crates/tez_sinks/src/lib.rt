@@ -9,5 +9,7 @@ mod result;
 mod staging;
 
 pub use commit::{purges_are_right, sinks_are_prepared, sinks_are_published};
-pub use result::{attempts_blame_the_job, results_are_whole, runs_are_good, sums_of_sinks};
+pub use result::{
+    attempts_blame_the_job, results_are_whole, runs_are_good, sums_of_sinks, tasks_were_staged,
+};
 pub use staging::{events_leave_the_store, masters_stay_well, reports_are_staged, stores_begin};

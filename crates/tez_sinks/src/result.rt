@@ -2,7 +2,7 @@
 ghost use Rattle.std.specs.Prelude.{◌≡◌, ◌++◌, map, true};
 ghost use Rattle.std.specs.List.{list_all};
 ghost use Rattle.tez_ids.specs.declared.AttemptId.{AttemptId};
-ghost use Rattle.tez_ports.specs.Content.{Named};
+ghost use Rattle.tez_ports.specs.Content.{Named, Store};
 ghost use Rattle.tez_plan.specs.Faults.{IsValid};
 ghost use Rattle.tez_conf.specs.declared.values.ConfValues.{ConfValues};
 ghost use Rattle.tez_meaning.specs.Jobs.{Job};
@@ -14,7 +14,7 @@ ghost use Rattle.tez_history.specs.Derived.{is_processing, all_done};
 ghost use Rattle.tez_history.specs.Follows.{IsMade};
 ghost use Rattle.tez_contents.specs.Contents.{met_bad};
 ghost use Rattle.tez_contents.specs.Laws.{HasNone, is_kept};
-ghost use Rattle.tez_sinks.specs.Sinks.{published_view, sink_sum, readied_sums, is_over, HasNoSink, WinnersAreGood};
+ghost use Rattle.tez_sinks.specs.Sinks.{published_view, sink_sum, readied_sums, is_over, HasNoSink, StoreIsRight, TasksWereStaged, WinnersAreGood};
 ghost use Rattle.tez_sinks.specs.Well.{IsWell};
 
 /// Sinks are published in order, each at most once with exactly its text. Once the job is finished,
@@ -31,6 +31,12 @@ pub fn results_are_whole()
 /// no bad record.
 pub fn runs_are_good()
     ensures { (job : Job) (c : ConfValues) (past : Past) → IsWell job c past → HasNone is_kept past → WinnersAreGood job past → all_done job.plan past ≡ true → IsDefined job }
+{}
+
+/// Once every task has a winner, each task of a vertex with a sink was staged with the text of what it
+/// is to make, by its winner. So it stays when all that was put aside is thrown away.
+pub fn tasks_were_staged()
+    ensures { (job : Job) (c : ConfValues) (past : Past) (before : Named) (store : Store) → IsWell job c past → all_done job.plan past ≡ true → StoreIsRight job past before store → TasksWereStaged job past store.stage_calls }
 {}
 
 /// An attempt that processes and met a bad record tells that its vertex meets one.

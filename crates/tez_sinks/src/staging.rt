@@ -2,6 +2,7 @@
 ghost use Rattle.std.specs.Prelude.{◌≡◌, ◌∷◌, [], ◌++◌, ℕ, List, Some, None, IsTrue, true, false};
 ghost use Rattle.tez_ids.specs.declared.Epoch.{Epoch};
 ghost use Rattle.tez_ids.specs.declared.AttemptId.{AttemptId};
+ghost use Rattle.tez_lists.specs.Numbers.{In};
 ghost use Rattle.tez_record.specs.Bag.{text};
 ghost use Rattle.tez_ports.specs.Content.{Named, Store, stages, staged_at};
 ghost use Rattle.tez_plan.specs.Faults.{IsValid};
@@ -50,12 +51,12 @@ pub fn events_leave_the_store()
 {}
 
 /// An attempt that processes may be staged at any time, with any bytes. After its report the store is
-/// right if the text of what it made was staged, and where its vertex has no sink as it stands. The
-/// winners stay good if it met no bad record.
+/// right if the text of what it made was staged, in a call that it noted, and where its vertex has no
+/// sink as it stands. The winners stay good if it met no bad record.
 pub fn reports_are_staged()
     ensures before { (job : Job) (c : ConfValues) (past : Past) (a : AttemptId) (bytes : List ℕ) (before : Named) (store : Store) → IsMade job.plan c past → IsTrue (is_processing (stage a past)) → StoreIsRight job past before store → StoreIsRight job past before (stages a bytes store) }
     ensures staged { (job : Job) (c : ConfValues) (past : Past) (a : AttemptId) (bytes : List (ℕ × ℕ)) (before : Named) (store : Store) → IsMade job.plan c past → IsTrue (is_processing (stage a past)) → StoreIsRight job past before store → StoreIsRight job (extend past (done_entries a bytes)) before (stages a (text (made job a past)) store) }
-    ensures was_staged { (job : Job) (c : ConfValues) (past : Past) (a : AttemptId) (bytes : List (ℕ × ℕ)) (before : Named) (store : Store) → IsMade job.plan c past → IsTrue (is_processing (stage a past)) → staged_at a store.staged ≡ Some (text (made job a past)) → StoreIsRight job past before store → StoreIsRight job (extend past (done_entries a bytes)) before store }
+    ensures was_staged { (job : Job) (c : ConfValues) (past : Past) (a : AttemptId) (bytes : List (ℕ × ℕ)) (before : Named) (store : Store) → IsMade job.plan c past → IsTrue (is_processing (stage a past)) → staged_at a store.staged ≡ Some (text (made job a past)) → In (a, text (made job a past)) store.stage_calls → StoreIsRight job past before store → StoreIsRight job (extend past (done_entries a bytes)) before store }
     ensures no_sink { (job : Job) (c : ConfValues) (past : Past) (a : AttemptId) (bytes : List (ℕ × ℕ)) (before : Named) (store : Store) → IsMade job.plan c past → IsTrue (is_processing (stage a past)) → sink_of job.plan a.task.vertex.0 ≡ None → StoreIsRight job past before store → StoreIsRight job (extend past (done_entries a bytes)) before store }
     ensures good { (job : Job) (c : ConfValues) (past : Past) (a : AttemptId) (bytes : List (ℕ × ℕ)) → IsMade job.plan c past → IsTrue (is_processing (stage a past)) → met_bad job a past ≡ false → WinnersAreGood job past → WinnersAreGood job (extend past (done_entries a bytes)) }
 {}

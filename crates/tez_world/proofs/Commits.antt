@@ -32,7 +32,7 @@ use Rattle.tez_control.specs.State.{MasterState}
 use Rattle.tez_control.specs.Settled.{settled}
 use Rattle.tez_control.specs.Enabled.{enabled_in}
 use Rattle.tez_control.specs.View.{master_view}
-use Rattle.tez_sinks.specs.Sinks.{sink_of, sink_name}
+use Rattle.tez_sinks.specs.Sinks.{sink_of, sink_name, TasksWereStaged}
 use Rattle.tez_log.specs.Log.{LogState}
 use Rattle.tez_master.specs.Master.{Step, Took, MasterParts, settled_by, entries_told}
 use Rattle.tez_master.specs.declared.handled.Handled.{Handled}
@@ -41,7 +41,7 @@ use Rattle.tez_keeping.specs.Step.{later, stepped}
 use Rattle.tez_keeping.specs.Store.{IsSuccess, StoreStands, HasPublished, WasClear}
 use Rattle.tez_keeping.proofs.PartsKeep.{quiet_keeps}
 use Rattle.tez_keeping.proofs.EndsCommit.{ready_holds, start_holds, purged_succeeds, publish_name}
-use Rattle.tez_keeping.proofs.EndsStore.{winners_merged, winners_staged, text_found, store_ready, store_prepared, store_publish, store_purge, store_published, store_tried}
+use Rattle.tez_keeping.proofs.EndsStore.{winners_merged, winners_staged, text_found, store_ready, store_prepared, store_publish, store_purge, store_published, store_tried, tasks_stored}
 use Rattle.tez_world.specs.declared.running.Running.{Running}
 use Rattle.tez_world.specs.declared.verdict.Took.TheVariants.{Changed}
 use Rattle.tez_world.specs.World.{Notes, AreNoted, Stands}
@@ -249,12 +249,13 @@ module _ (job : Job) (c : ConfValues) (old : Running) (past : Past) (h : Holds j
   purge_taken then_past is = subst (IsSuccess job (sums job)) (sym is) (purged_succeeds job c (with_right_notes job (parts_of old)) past h (on_master job c (parts_of old) past Purge h on))
 
   pub purge_told_now : (before : Named) (pairs : List (ℕ × ℕ)) (then_past : Past) (o n : Option Store) → n ≡ option_map purges o → pairs ≡ old.sums.items → then_past ≡ later job c past Purge → Told o (Stands job before past (notes_of old))
-      → Told n (λ s. StoreStands job before then_past s × (pairs ≡ sums job))
+      → Told n (λ s. StoreStands job before then_past s × (pairs ≡ sums job) × TasksWereStaged job then_past s.stage_calls)
   purge_told_now before pairs then_past o n ok pairs_are past_is told =
-      told_map (Stands job before past (notes_of old)) (λ s. StoreStands job before then_past s × (pairs ≡ sums job)) o n purges ok
+      told_map (Stands job before past (notes_of old)) (λ s. StoreStands job before then_past s × (pairs ≡ sums job) × TasksWereStaged job then_past s.stage_calls) o n purges ok
       (λ s k. (
         subst (λ (p : Past). StoreStands job before p (purges s)) (sym past_is) (store_purge job c (with_right_notes job (parts_of old)) past before s h k.store),
         pairs_are ∙ purge_told job c (parts_of old) past (notes_of old) h (on_master job c (parts_of old) past Purge h on) k.noted,
+        subst (λ (p : Past). TasksWereStaged job p s.stage_calls) (sym past_is) (tasks_stored job c (with_right_notes job (parts_of old)) past before s h (on_master job c (parts_of old) past Purge h on) k.store),
       )) told
 
   pub purge_fault : (before : Named) (notes : Notes) (then_past : Past) (o n : Option Store) → IsEither purges o n → then_past ≡ past → Told o (Stands job before past notes) → Told n (λ s. HasPublished job before s × WasClear job before then_past)

@@ -14,3 +14,6 @@ pub mod Tellings
 pub mod WellLaws
 pub mod RunLaws
 pub mod Driven
+pub mod Consumers
+pub mod ReportBytes
+pub mod Kept

@@ -6,7 +6,7 @@
 --     tried_told, fault_told, stands_told      the store, where the value was staged or may have been
 --     fail_on, blamed                          a failure of an attempt at work is taken; what a bad record says
 --     done_reported, bad_reported, ignored_reported    what came of a report
-use Rattle.std.specs.Prelude.{◌≡◌, ◌⊎◌, ◌≤◌, ◌<◌, ◌^◌, ◌/◌, ◌&&◌, ℕ, Bool, true, false, not, if◌then◌else◌, List, [], ◌∷◌, map, length, slice_get, slice_set, Option, Some, None, IfSome, is_some, option_map, Result, Ok, Err, is_err, OnOk, refl}
+use Rattle.std.specs.Prelude.{◌≡◌, ◌⊎◌, ◌≤◌, ◌<◌, ◌^◌, ◌/◌, ◌&&◌, ℕ, Bool, true, false, not, if◌then◌else◌, List, [], ◌∷◌, map, length, slice_get, slice_set, Option, Some, None, IfSome, is_some, option_map, Result, Ok, Err, is_err, OnOk, sum_by, refl}
 use Rattle.std.specs.Option.{option_map_or}
 use Rattle.std.proofs.Common.{ap, sym, ◌∙◌, subst, arith, inl, inr}
 use Rattle.std.proofs.lemmas.Option.{same_Some}
@@ -28,6 +28,7 @@ use Rattle.tez_history.specs.Derived.{is_processing}
 use Rattle.tez_history.specs.Steps.{done_entries}
 use Rattle.tez_log.specs.Log.{LogState}
 use Rattle.tez_shelves.specs.Shelf.{shelf}
+use Rattle.tez_shelves.specs.Piece.{size}
 use Rattle.tez_control.specs.declared.why.Why.{Why}
 use Rattle.tez_control.specs.declared.why.Why.TheVariants.{OldEpoch, Stranger}
 use Rattle.tez_control.specs.State.{MasterState}
@@ -119,6 +120,11 @@ noted_report job past a bytes notes n =
 
 -- ---- what holds after a success
 
+-- the pieces of an outcome have few bytes
+few_bytes : (o : OrderParts) (value : Records) (pieces : Pieces) → IsOutcome o (Done value pieces) → sum_by size pieces < 2 ^ 63
+unfolding IsOutcome
+few_bytes o value pieces k = k.3
+
 pub record IsSettled (old after : Running) (was later : Past) (at : At) (bytes : List (EdgeId × ℕ)) (pieces : Pieces) : Type 0 where
   pub master : after.master.state ≡ after_done old.master.state at.a bytes
   pub desks : after.desks.desks ≡ slice_set old.desks.desks at.place Vacant
@@ -146,8 +152,11 @@ module _ (job : Job) (c : ConfValues) (old : Running) (past : Past) (at : At) (v
   pub value_is : value ≡ made job at.a past
   value_is = outcome_value job c (with_right_notes job (parts_of old)) past at.a at.place out.order h on w.held there value pieces (due out.order there)
 
-  pieces_are : pieces ≡ pieces_of (outs_for job.plan at.a.task.vertex.0) (made job at.a past)
+  pub pieces_are : pieces ≡ pieces_of (outs_for job.plan at.a.task.vertex.0) (made job at.a past)
   pieces_are = outcome_pieces job c (with_right_notes job (parts_of old)) past at.a at.place out.order h on w.held there value pieces (due out.order there) ∙ ap (pieces_of (outs_for job.plan at.a.task.vertex.0)) value_is
+
+  pub few_pieces : sum_by size pieces < 2 ^ 63
+  few_pieces = few_bytes out.order value pieces (due out.order there)
 
   slot_is : at.node.slot ≡ slot_of c at.place
   slot_is = w.slot ∙ ap (λ (m : MasterState). at.place / m.pool.per_node) h.master
@@ -270,7 +279,7 @@ blamed job c r past at o rec h w there is =
 -- ---- what came of a report
 
 pub done_reported : (job : Job) (c : ConfValues) (x : ReportParts) (value : Records) (pieces : Pieces) (r : Running) (log : LogState) (took : Took) (after : Running) (l : LogState) → x.outcome ≡ Done value pieces
-    → IsDoneReport job c x.order.attempt r log took after l → IsReported job c x r log took after l
+    → IsDoneReport job c x.order.attempt (Done value pieces) r log took after l → IsReported job c x r log took after l
 done_reported job c x value pieces r log Changed after l e k = ((k.0, subst (λ (o : Outcome). ReportAdds job c log.past x.order.attempt o l.past) (sym e) k.1), k.2)
 done_reported job c x value pieces r log (Ignored why) after l e k = absurd k
 done_reported job c x value pieces r log (Over (DeviceFault d)) after l e k = k

@@ -1,9 +1,9 @@
 -- A run, by its parts.
 --     in_order        what was published is a first part of the sinks
 --     next_up         the master's own next event
---     up_world, up_step, up_stands               the first master is up
+--     up_parts, up_step, up_stands               the first master is up
 --     ended_step, ended_stands, ended_fault      or the run ended at once
---     holds_inside, told_inside                  what holds of a run that is up
+--     world_inside, told_inside                  what holds of a run that is up
 use Rattle.std.specs.Prelude.{◌≡◌, ◌≢◌, ◌++◌, ◌<◌, ◌≤◌, ◌+◌, ℕ, zero, suc, Bool, true, false, List, [], ◌∷◌, length, slice_get, is_some, unwrap_or, Option, Some, None, refl}
 use Rattle.std.specs.List.{find, filter}
 use Rattle.std.specs.Option.{option_map, option_map_or}
@@ -38,13 +38,13 @@ use Rattle.tez_world.specs.declared.verdict.Verdict.TheVariants.{Succeeded, Sink
 use Rattle.tez_world.specs.declared.verdict.Took.TheVariants.{Changed, Ended}
 use Rattle.tez_world.specs.declared.running.Running.{Running}
 use Rattle.tez_world.specs.World.{Phase, Down, Over, Up, Notes, Stands, StoreAfter, Adds, EndIs, IsEnd, StepIs, FaultIs, first_published, next_in}
-use Rattle.tez_world.specs.Holds.{parts_of, with_right_notes, Holds, notes_of, notes_from, phase_of, IsWorld}
+use Rattle.tez_world.specs.Holds.{parts_of, with_right_notes, Holds, notes_of, notes_from, phase_of, HasParts, IsWorld}
 use Rattle.tez_world.specs.Taking.{is_open}
 use Rattle.tez_world.specs.Begun.{HasBegun, HasRows, WasAsked, HasFault}
 use Rattle.tez_world.proofs.Commits.{low_sink}
 use Rattle.tez_world.proofs.Tellings.{told_same}
 
-pub in_order : (job : Job) (c : ConfValues) (running : Option Running) (over : Bool) (past : Past) (before : Named) (notes : Notes) (s : Store) → IsWorld job c running over past → phase_of running over ≢ Over → Stands job before past notes s → HasPublished job before s
+pub in_order : (job : Job) (c : ConfValues) (running : Option Running) (over : Bool) (past : Past) (before : Named) (notes : Notes) (s : Store) → HasParts job c running over past → phase_of running over ≢ Over → Stands job before past notes s → HasPublished job before s
 in_order job c running true past before notes s h going stands = absurd (going refl)
 in_order job c None false past before notes s h going stands = (0, stands.store.right.publications ∙ ap (λ (p : Past). before ++ published_view job p) h)
 in_order job c (Some r) false past before notes s h going stands = store_published job c (with_right_notes job (parts_of r)) past before s h stands.store
@@ -52,10 +52,10 @@ in_order job c (Some r) false past before notes s h going stands = store_publish
 next_by : (job : Job) (c : ConfValues) (r : Running) (past : Past) → Holds job c (parts_of r) past → (victim : Option AttemptId) → IsVictim r.master.state victim → (e : Option CoreEvent) → e ≡ choice_in r.master.state victim → option_map Core e ≡ option_map Core (choice job.plan c past)
 next_by job c r past h victim is e chosen = ap (option_map Core) (chosen ∙ choice_taken job c (with_right_notes job (parts_of r)) past victim h is)
 
-pub next_up : (job : Job) (c : ConfValues) (running : Option Running) (over : Bool) (past : Past) (r : Running) → over ≡ false → running ≡ Some r → IsWorld job c running over past → (victim : Option AttemptId) → IsVictim r.master.state victim → (e : Option CoreEvent)
+pub next_up : (job : Job) (c : ConfValues) (running : Option Running) (over : Bool) (past : Past) (r : Running) → over ≡ false → running ≡ Some r → HasParts job c running over past → (victim : Option AttemptId) → IsVictim r.master.state victim → (e : Option CoreEvent)
     → e ≡ choice_in r.master.state victim → option_map Core e ≡ next_in job c (phase_of running over) past
 next_up job c running over past r off some h victim is e chosen =
-    let up : IsWorld job c (Some r) false past = subst (λ (b : Bool). IsWorld job c (Some r) b past) off (subst (λ (o : Option Running). IsWorld job c o over past) some h) in
+    let up : HasParts job c (Some r) false past = subst (λ (b : Bool). HasParts job c (Some r) b past) off (subst (λ (o : Option Running). HasParts job c o over past) some h) in
     let phase : phase_of running over ≡ Up = ap (λ (o : Option Running). phase_of o over) some ∙ ap (phase_of (Some r)) off in
     next_by job c r past up victim is e chosen ∙ sym (ap (λ (p : Phase). next_in job c p past) phase)
 
@@ -85,16 +85,16 @@ open_is (Core Finish) h = cc
 open_is (Core Purge) h = cc
 open_is (Report r) h = cc
 
-pub was_empty : (job : Job) (c : ConfValues) (running : Option Running) (over : Bool) (past : Past) → phase_of running over ≡ Down → IsWorld job c running over past → past ≡ []
+pub was_empty : (job : Job) (c : ConfValues) (running : Option Running) (over : Bool) (past : Past) → phase_of running over ≡ Down → HasParts job c running over past → past ≡ []
 was_empty job c running true past down h = cc
 was_empty job c None false past down h = h
 was_empty job c (Some r) false past down h = cc
 
 -- it is up
-pub up_world : (job : Job) (c : ConfValues) (r : Running) (over : Bool) (past : Past) (began : Began) → over ≡ false → began ≡ BegunUp r → HasBegun job c began past → IsWorld job c (Some r) over past
-up_world job c r over past began off is h =
+pub up_parts : (job : Job) (c : ConfValues) (r : Running) (over : Bool) (past : Past) (began : Began) → over ≡ false → began ≡ BegunUp r → HasBegun job c began past → HasParts job c (Some r) over past
+up_parts job c r over past began off is h =
     let begun : HasBegun job c (BegunUp r) past = subst (λ (b : Began). HasBegun job c b past) is h in
-    subst (λ (b : Bool). IsWorld job c (Some r) b past) (sym off) begun.1
+    subst (λ (b : Bool). HasParts job c (Some r) b past) (sym off) begun.1
 
 pub up_step : (job : Job) (c : ConfValues) (phase : Phase) (past : Past) (e : Event) (r : Running) (over : Bool) (after : Past) (began : Began) → phase ≡ Down → over ≡ false → is_open e ≡ true → began ≡ BegunUp r → HasBegun job c began after
     → StepIs job c phase past e Changed (phase_of (Some r) over) after
@@ -194,8 +194,8 @@ ended_fault job c after v began faults stops new_faults new_stops is h f = by v 
 
 -- ---- a run that is up
 
-pub holds_inside : (job : Job) (c : ConfValues) (running : Option Running) (over : Bool) (past : Past) (r : Running) → over ≡ false → running ≡ Some r → IsWorld job c running over past → Holds job c (parts_of r) past
-holds_inside job c running over past r off some h = subst (λ (b : Bool). IsWorld job c (Some r) b past) off (subst (λ (o : Option Running). IsWorld job c o over past) some h)
+pub world_inside : (job : Job) (c : ConfValues) (running : Option Running) (over : Bool) (past : Past) (r : Running) → over ≡ false → running ≡ Some r → IsWorld job c running over past → IsWorld job c (Some r) false past
+world_inside job c running over past r off some h = subst (λ (b : Bool). IsWorld job c (Some r) b past) off (subst (λ (o : Option Running). IsWorld job c o over past) some h)
 
 pub told_inside : (o : Option Store) (before : Named) (job : Job) (past : Past) (running : Option Running) (r : Running) → running ≡ Some r → Told o (Stands job before past (notes_from running)) → Told o (Stands job before past (notes_of r))
 told_inside o before job past running r some told = subst (λ (x : Option Running). Told o (Stands job before past (notes_from x))) some told

@@ -1,7 +1,7 @@
 -- What the parts of a step make of an event is what a running world makes of it.
 --     taken_is, failed_is, done_is, reported_is      each part
 --     told_ok, same_stands, no_fault                 a store that was not called
---     step_is, world_is                              what the world then tells
+--     step_is, world_is                              what the world then tells, and its parts
 use Rattle.std.specs.Prelude.{ℕ, Option, Some, Result, Ok, Err, IfOk, OnOk, OnErr, refl}
 use Rattle.std.proofs.Common.{sym, subst, inr}
 use Rattle.tez_conf.specs.declared.values.ConfValues.{ConfValues}
@@ -22,7 +22,7 @@ use Rattle.tez_world.specs.declared.verdict.Verdict.TheVariants.{Succeeded, Sink
 use Rattle.tez_world.specs.declared.verdict.Took.{Took}
 use Rattle.tez_world.specs.declared.verdict.Took.TheVariants.{Changed, Ignored, Ended}
 use Rattle.tez_world.specs.World.{Notes, Up, Stands, StepIs, IsEnd, EndIs, FaultIs, IsNoFault}
-use Rattle.tez_world.specs.Holds.{parts_of, Holds, with_right_notes, notes_of, phase_of, IsWorld}
+use Rattle.tez_world.specs.Holds.{parts_of, Holds, with_right_notes, notes_of, phase_of, HasParts}
 use Rattle.tez_world.specs.Steps.{SameParts, SameLog, IsTaken, IsFailed, IsDone, IsReported}
 use Rattle.tez_world.specs.Taking.{IsTook, is_ended}
 use Rattle.tez_world.proofs.WellLaws.{ended_well}
@@ -106,7 +106,7 @@ same_holds job c r after log l p s h =
     subst (λ (ps : Parts). HoldsNoted job c (with_right_notes job ps) l.past) (sym p.parts) (subst (λ (x : Past). Holds job c (parts_of r) x) (sym s.past) h)
 
 pub world_is : (job : Job) (c : ConfValues) (e : Event) (r : Running) (log : LogState) (took : Took) (after : Running) (l : LogState) → Holds job c (parts_of r) log.past → IsTook job c e r log took after l
-    → IsWorld job c (Some after) (is_ended took) l.past
+    → HasParts job c (Some after) (is_ended took) l.past
 world_is job c e r log Changed after l h k = k.1
 world_is job c e r log (Ignored why) after l h k = same_holds job c r after log l k.1 k.2 h
 world_is job c e r log (Ended v) after l h k = inr (ended_well job c r log.past l.past e v h k.0)

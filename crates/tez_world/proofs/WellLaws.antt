@@ -14,9 +14,6 @@ use Rattle.tez_history.specs.Derived.{is_processing}
 use Rattle.tez_history.specs.Steps.{enabled, entries_of, is_running}
 use Rattle.tez_laws.proofs.OneLive.{one_live}
 use Rattle.tez_laws.proofs.Tasks.{no_both}
-use Rattle.tez_laws.proofs.Obeying.{places_obeyed, commit_obeyed, configs_obeyed}
-use Rattle.tez_laws.proofs.Fetches.{fetches_obeyed}
-use Rattle.tez_laws.proofs.Queues.{queues_obeyed}
 use Rattle.tez_progress.proofs.Ending.{goes_further}
 use Rattle.tez_contents.proofs.Attempts.{all_right}
 use Rattle.tez_control.specs.State.{MasterState}
@@ -26,6 +23,8 @@ use Rattle.tez_control.specs.View.{master_view}
 use Rattle.tez_control.proofs.TaskReadings.{processes_read}
 use Rattle.tez_orders.specs.declared.report.Outcome.{Outcome}
 use Rattle.tez_orders.specs.declared.report.Outcome.TheVariants.{Done, Bad, NoMemory}
+use Rattle.tez_rules.specs.OneMaster.{IsRuled}
+use Rattle.tez_rules.proofs.Unbroken.{one_unbroken}
 use Rattle.tez_sinks.specs.Well.{IsWell}
 use Rattle.tez_sinks.proofs.Wells.{well_event, well_report}
 use Rattle.tez_keeping.proofs.PartsKeep.{on_of}
@@ -34,9 +33,10 @@ use Rattle.tez_world.specs.declared.event.Event.TheVariants.{Core, Report}
 use Rattle.tez_world.specs.declared.running.Running.{Running}
 use Rattle.tez_world.specs.declared.verdict.Verdict.{Verdict}
 use Rattle.tez_world.specs.declared.verdict.Verdict.TheVariants.{Succeeded, SinkExists, AttemptsSpent, DeviceFault}
-use Rattle.tez_world.specs.World.{Up, Adds, ReportAdds, EndIs}
-use Rattle.tez_world.specs.Holds.{parts_of, with_right_notes, Holds, phase_of, IsWorld}
-use Rattle.tez_world.specs.Lawful.{IsLawful, IsTrace, IsGoing}
+use Rattle.tez_world.specs.World.{Up, Adds, ReportAdds, EndIs, bytes_out}
+use Rattle.tez_world.specs.Holds.{parts_of, with_right_notes, Holds, phase_of, HasParts, IsWorld}
+use Rattle.tez_world.specs.Lawful.{BytesAreTold, IsLawful, IsTrace, IsGoing}
+use Rattle.tez_world.proofs.Consumers.{consumed}
 use Rattle.tez_world.proofs.Events.{on_master}
 use Rattle.tez_world.proofs.Taking.{masters_event}
 use Rattle.tez_world.proofs.Reported.{both_on, goes_unfinished, unfinished}
@@ -53,7 +53,7 @@ core_well job c r past after e h on is =
     subst (IsWell job c) (sym is) (well_event job c past e h.well (on_of job c (with_right_notes job (parts_of r)) past e h (masters_event r.master.state e here) here))
 
 report_well : (job : Job) (c : ConfValues) (r : Running) (past after : Past) (a : AttemptId) (o : Outcome) → Holds job c (parts_of r) past → is_processing (stage a past) ≡ true → ReportAdds job c past a o after → IsWell job c after
-report_well job c r past after a (Done value pieces) h runs k = subst (IsWell job c) (sym k.1) (well_report job c past a k.0 h.well runs)
+report_well job c r past after a (Done value pieces) h runs k = subst (IsWell job c) (sym k.2) (well_report job c past a (bytes_out job.plan a.task.vertex.0 value) h.well runs)
 report_well job c r past after a (Bad rec) h runs k = subst (IsWell job c) (sym k.0) (well_event job c past (Fail a) h.well (fail_enabled job c r past a h runs))
 report_well job c r past after a NoMemory h runs k = absurd k
 
@@ -69,8 +69,8 @@ ended_well job c r past after e (DeviceFault d) h k = subst (IsWell job c) (sym 
 
 -- ---- what holds of it
 
-pub lawful : (job : Job) (c : ConfValues) (past : Past) → IsWell job c past → IsLawful job c past
-lawful job c past w =
+pub lawful : (job : Job) (c : ConfValues) (past : Past) → IsWell job c past → IsRuled job.plan c past → BytesAreTold job past → IsLawful job c past
+lawful job c past w ruled bytes =
     let right = all_right job c w.ranges w.valid past w.made w.allowed w.kept in
     record {
       made = w.made;
@@ -79,26 +79,28 @@ lawful job c past w =
       winners = λ t a h. (right.0 t a h).1;
       orders = λ a h. (right.1 a h).0.1;
       fetches = λ a n i e at h. (right.2 a n i e at h).3;
-      places_rule = places_obeyed job.plan c past w.made;
-      queues_rule = queues_obeyed job.plan c past w.made;
-      configs_rule = configs_obeyed job.plan c past w.made;
-      fetches_rule = fetches_obeyed job.plan c past w.made;
-      commit_rule = commit_obeyed job.plan c past w.made;
+      consumers = consumed job.plan past w.now;
+      bytes = bytes;
+      unbroken = one_unbroken job.plan c past w.valid w.ranges w.made ruled;
     }
 
-well_trace : (job : Job) (c : ConfValues) (past : Past) → (past ≡ []) ⊎ IsWell job c past → IsTrace job c past
-well_trace job c past (inl e) = inl e
-well_trace job c past (inr w) = inr (lawful job c past w)
+well_trace : (job : Job) (c : ConfValues) (past : Past) → IsRuled job.plan c past → BytesAreTold job past → (past ≡ []) ⊎ IsWell job c past → IsTrace job c past
+well_trace job c past ruled bytes (inl e) = inl e
+well_trace job c past ruled bytes (inr w) = inr (lawful job c past w ruled bytes)
 
 pub trace_of : (job : Job) (c : ConfValues) (running : Option Running) (over : Bool) (past : Past) → IsWorld job c running over past → IsTrace job c past
-trace_of job c running true past h = well_trace job c past h
-trace_of job c None false past h = inl h
-trace_of job c (Some r) false past h = inr (lawful job c past h.well)
+trace_of job c running over past w = by running over w.parts where
+  by : (running : Option Running) (over : Bool) → HasParts job c running over past → IsTrace job c past
+  by running true h = well_trace job c past w.ruled w.bytes h
+  by None false h = inl h
+  by (Some r) false h = inr (lawful job c past h.well w.ruled w.bytes)
 
 going_up : (job : Job) (c : ConfValues) (past : Past) (r : Running) → Holds job c (parts_of r) past → IsGoing job.plan c past
-going_up job c past r h = record { further = goes_further job.plan c past h.goes.valid h.goes.conf h.well.made h.goes.fitted h.goes.sound.goes_on; goes_on = h.goes.sound.goes_on }
+going_up job c past r h = record { further = goes_further job.plan c past h.goes.valid h.goes.conf h.well.made h.goes.fitted h.goes.sound.goes_on h.up; goes_on = h.goes.sound.goes_on }
 
 pub going : (job : Job) (c : ConfValues) (running : Option Running) (over : Bool) (past : Past) → IsWorld job c running over past → phase_of running over ≡ Up → IsGoing job.plan c past
-going job c running true past h up = cc
-going job c None false past h up = cc
-going job c (Some r) false past h up = going_up job c past r h
+going job c running over past w up = by running over w.parts up where
+  by : (running : Option Running) (over : Bool) → HasParts job c running over past → phase_of running over ≡ Up → IsGoing job.plan c past
+  by running true h up = cc
+  by None false h up = cc
+  by (Some r) false h up = going_up job c past r h

@@ -3,7 +3,8 @@
 --     Holds job c ps past              what holds of them, whatever is noted of the sinks
 --     notes_of, notes_from             what is noted of the sinks
 --     phase_of, queue_of               what contracts see of them
---     IsWorld job c running over past  what holds of a world
+--     HasParts job c running over past  what its parts are
+--     IsWorld job c running over past  what holds of a world: its parts, the trace is one that keeps the rules, and reports told the bytes
 use Rattle.std.specs.Prelude.{◌≡◌, ◌⊎◌, ℕ, Bool, true, false, List, [], map, Option, Some, None}
 use Rattle.tez_ids.specs.declared.AttemptId.{AttemptId}
 use Rattle.tez_conf.specs.declared.values.ConfValues.{ConfValues}
@@ -11,8 +12,10 @@ use Rattle.tez_meaning.specs.Jobs.{Job}
 use Rattle.tez_meaning.specs.Value.{sums}
 use Rattle.tez_history.specs.Shape.{vertices}
 use Rattle.tez_history.specs.History.{Past}
+use Rattle.tez_rules.specs.OneMaster.{IsRuled}
 use Rattle.tez_sinks.specs.Well.{IsWell}
 use Rattle.tez_keeping.specs.Keeping.{Parts, Holds as HoldsNoted, sum_of}
+use Rattle.tez_world.specs.Lawful.{BytesAreTold}
 use Rattle.tez_world.specs.World.{Phase, Down, Up, Over, Notes}
 use Rattle.tez_world.specs.declared.running.Running.{Running}
 
@@ -46,10 +49,15 @@ abbrev pub queue_of : Option Running → List AttemptId
 queue_of None = []
 queue_of (Some r) = r.desks.queue
 
-abbrev pub IsGoing : Job → ConfValues → Option Running → Past → Type 0
-IsGoing job c None past = past ≡ []
-IsGoing job c (Some r) past = Holds job c (parts_of r) past
+abbrev pub IsRunning : Job → ConfValues → Option Running → Past → Type 0
+IsRunning job c None past = past ≡ []
+IsRunning job c (Some r) past = Holds job c (parts_of r) past
 
-abbrev pub IsWorld : Job → ConfValues → Option Running → Bool → Past → Type 0
-IsWorld job c running true past = (past ≡ []) ⊎ IsWell job c past
-IsWorld job c running false past = IsGoing job c running past
+abbrev pub HasParts : Job → ConfValues → Option Running → Bool → Past → Type 0
+HasParts job c running true past = (past ≡ []) ⊎ IsWell job c past
+HasParts job c running false past = IsRunning job c running past
+
+pub record IsWorld (job : Job) (c : ConfValues) (running : Option Running) (over : Bool) (past : Past) : Type 0 where
+  pub parts : HasParts job c running over past
+  pub ruled : IsRuled job.plan c past
+  pub bytes : BytesAreTold job past

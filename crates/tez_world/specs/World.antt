@@ -8,14 +8,16 @@
 --     Stands job before past notes s       the store is as it is to be, and the notes are right
 --     StoreAfter job before took past notes s    the same, by what a step answered
 --     IsWhy job c phase past e why         why an event is ignored
+--     bytes_out g v value                  of each scatter-gather edge out of a vertex, the bytes of a value that goes out over it
 --     Adds job c phase past e after        the history after an event that was taken
 --     StepIs job c phase past e took ..    what a step answered, and the phase and history after it
 --     FaultIs .., IsNoFault took   whether a step ended at a device
 --     next_in job c phase past     the next event of the world's own
-use Rattle.std.specs.Prelude.{◌≡◌, ◌≢◌, ◌⊎◌, ◌≤◌, ⊤, ℕ, true, false, List, [], ◌∷◌, length, is_some, Option, Some, None}
-use Rattle.std.specs.List.{find}
+use Rattle.std.specs.Prelude.{◌≡◌, ◌≢◌, ◌⊎◌, ◌≤◌, ⊤, ℕ, true, false, List, [], ◌∷◌, map, length, is_some, Option, Some, None}
+use Rattle.std.specs.List.{find, filter, enumerate_from}
 use Rattle.std.specs.Option.{option_map}
 use Rattle.tez_ids.specs.declared.AttemptId.{AttemptId}
+use Rattle.tez_record.specs.Bag.{text}
 use Rattle.tez_plan.specs.Dag.{Dag}
 use Rattle.tez_conf.specs.declared.values.ConfValues.{ConfValues}
 use Rattle.tez_events.specs.declared.JournalRecord.{JournalRecord}
@@ -29,15 +31,16 @@ use Rattle.tez_history.specs.Shape.{sinks, has_sink}
 use Rattle.tez_history.specs.History.{Past, extend, stage, failures, is_up, is_committing}
 use Rattle.tez_history.specs.Derived.{is_processing}
 use Rattle.tez_history.specs.Steps.{entries_of, done_entries, choice}
-use Rattle.tez_contents.specs.Contents.{met_bad}
+use Rattle.tez_contents.specs.Contents.{made, met_bad}
 use Rattle.tez_control.specs.declared.why.Why.{Why}
 use Rattle.tez_control.specs.declared.why.Why.TheVariants.{Over as IsOver, Down as IsDown, Stranger}
 use Rattle.tez_control.specs.Enabled.{enabled_in, why_not}
 use Rattle.tez_control.specs.View.{master_view}
-use Rattle.tez_control.specs.Laws.{why_after}
+use Rattle.tez_control.specs.Laws.{why_after, leaves_by_key}
+use Rattle.tez_rules.specs.OneMaster.{AllFit}
 use Rattle.tez_orders.specs.declared.report.Outcome.{Outcome}
 use Rattle.tez_orders.specs.declared.report.Outcome.TheVariants.{Done, Bad, NoMemory}
-use Rattle.tez_sinks.specs.Sinks.{sink_name, HasNoSink}
+use Rattle.tez_sinks.specs.Sinks.{sink_name, TasksWereStaged, HasNoSink}
 use Rattle.tez_keeping.specs.Keeping.{TextsAreRight}
 use Rattle.tez_keeping.specs.Store.{IsSuccess, HasPublished, WasClear, StoreStands}
 use Rattle.tez_world.specs.declared.event.Event.{Event}
@@ -95,11 +98,11 @@ pub record Stands (job : Job) (before : Named) (past : Past) (notes : Notes) (s 
   pub store : StoreStands job before past s
   pub noted : AreNoted job past notes
 
--- a success tells the records and bytes of the sinks
+-- a success tells the records and bytes of the sinks, and each task of a vertex with a sink was staged by its winner
 abbrev pub StoreAfter : Job → Named → Took → Past → Notes → Store → Type 0
 StoreAfter job before Changed past notes s = Stands job before past notes s
 StoreAfter job before (Ignored why) past notes s = Stands job before past notes s
-StoreAfter job before (Ended (Succeeded pairs)) past notes s = StoreStands job before past s × (pairs.items ≡ sums job)
+StoreAfter job before (Ended (Succeeded pairs)) past notes s = StoreStands job before past s × (pairs.items ≡ sums job) × TasksWereStaged job past s.stage_calls
 StoreAfter job before (Ended (SinkExists v)) past notes s = (s.publications ≡ before) × (first_published job.plan before ≡ Some v.0)
 StoreAfter job before (Ended (AttemptsSpent t)) past notes s = (s.publications ≡ before) × HasNoSink job before
 StoreAfter job before (Ended (DeviceFault device)) past notes s = HasPublished job before s × WasClear job before past
@@ -117,8 +120,15 @@ IsWhy job c Over past e why = why ≡ IsOver
 
 -- ---- what an event adds
 
+abbrev pub bytes_out : Dag → ℕ → List (List ℕ) → List (ℕ × ℕ)
+bytes_out g v value = map (λ e. (e.0, length (text value))) (filter (leaves_by_key g v) (enumerate_from 0 g.edges))
+
+-- a report tells the bytes of what its attempt made, or the bad record that it met
 abbrev pub ReportAdds : Job → ConfValues → Past → AttemptId → Outcome → Past → Type 0
-ReportAdds job c past a (Done value pieces) after = (made : List (ℕ × ℕ)) × (after ≡ extend past (done_entries a made))
+ReportAdds job c past a (Done value pieces) after =
+    (value ≡ made job a past)
+    × AllFit (bytes_out job.plan a.task.vertex.0 value)
+    × (after ≡ extend past (done_entries a (bytes_out job.plan a.task.vertex.0 value)))
 ReportAdds job c past a (Bad r) after = (after ≡ extend past (entries_of job.plan c past (Fail a))) × (met_bad job a past ≡ true) × (bad job a.task.vertex.0 ≡ true)
 ReportAdds job c past a NoMemory after = ⊥
 

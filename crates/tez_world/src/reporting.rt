@@ -181,7 +181,7 @@ fn done<S: OutputStore>(
     requires holds { Holds job.now conf.now (parts_of running.old) log.old.past }
     requires works { IsAtWork running.old.master.state at }
     requires due { (o : OrderParts) → desk_at running.old.desks.desks at.place ≡ Out o → IsOutcome o (Outcome.Done value.now pieces) }
-    ensures taken { IfOk result (λ took. IsDoneReport job.now conf.now at.a running.old log.old took running.new log.new) }
+    ensures taken { IfOk result (λ took. IsDoneReport job.now conf.now at.a (Outcome.Done value.now pieces) running.old log.old took running.new log.new) }
     ensures refused_parts { OnErr result (SameParts running.old running.new) }
     ensures refused_log { OnErr result (SameLog log.old log.new) }
     ensures store { (before : Named) → Told (S.store store.old) (Stands job.now before log.old.past (notes_of running.old)) → IfOk result (λ took. Told (S.store store.new) (StoreAfter job.now before took log.new.past (notes_of running.new))) }

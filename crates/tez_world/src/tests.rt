@@ -6,7 +6,7 @@ use std::test::Fail;
 use tez_conf::Conf;
 use tez_control::Why;
 use tez_dag_json::read_dag;
-use tez_events::CoreEvent;
+use tez_events::{CoreEvent, Entry};
 use tez_ids::{Bytes, Name, TaskId, VertexId};
 use tez_meaning::{Job, has_sources};
 use tez_orders::work;
@@ -25,13 +25,31 @@ const ONE_PLACE: &str =
 const LOST: &str =
     "open 1\nconfig 0 1 1\nconfig 1 1 1\nqueue 1.0.0.0\nplace 1.0.0.0 0 0\norder 1.0.0.0\ndone 1.0.0.0\nmade 1.0.0.0 0 4\noutputlost 1.0.0.0\nqueue 1.1.0.0\nplace 1.1.0.0 0 0\nreaderror 1.1.0.0 0 0 1.0.0.0\nrerun 1.0.0.0\ninputfailed 1.1.0.0 0 0 1.0.0.0\nqueue 1.0.0.1\nkill 1.1.0.0 preempt\nqueue 1.1.0.1\nplace 1.0.0.1 0 0\norder 1.0.0.1\ndone 1.0.0.1\nmade 1.0.0.1 0 4\nplace 1.1.0.1 0 0\nfetch 1.1.0.1 0 0 1.0.0.1\norder 1.1.0.1\ndone 1.1.0.1\nready 1\ncommit\npublish 1\nfinish\npurge\nend\n";
 
-fn job(alloc: Global, dag: &str, source: &str) -> Result<(Job, Conf), Fail> {
+/// Orders by country: a lookup against users that are broadcast to it, then a sum.
+const ORDERS: &str =
+    "{\"name\":\"orders\",\"vertices\":[{\"name\":\"users\",\"tasks\":3,\"source\":\"users.txt\",\"head\":{\"op\":\"each\"}},{\"name\":\"orders\",\"tasks\":2,\"source\":\"orders.txt\",\"head\":{\"op\":\"lookup\",\"key\":[1],\"side_key\":[0]},\"steps\":[{\"op\":\"project\",\"cols\":[4,2]}]},{\"name\":\"by_country\",\"tasks\":2,\"head\":{\"op\":\"sum\",\"value\":1},\"sink\":\"out\"}],\"edges\":[{\"from\":\"users\",\"to\":\"orders\",\"movement\":\"BROADCAST\"},{\"from\":\"orders\",\"to\":\"by_country\",\"movement\":\"SCATTER_GATHER\",\"keys\":[0]}]}";
+
+const ORDERS_FILES: [(&str, &str); 2] = [
+    ("users.txt", "ann\tFR\nbob\tDE\n"),
+    ("orders.txt", "o1\tann\t30\no2\tbob\t15\no3\tann\t12\n"),
+];
+
+/// Four source tasks, a line each, and eight partitions that may be gathered by fewer tasks.
+const SHRINKS: &str =
+    "{\"name\":\"shrinks\",\"vertices\":[{\"name\":\"src\",\"tasks\":4,\"source\":\"in.txt\",\"head\":{\"op\":\"each\"}},{\"name\":\"agg\",\"tasks\":8,\"head\":{\"op\":\"count\"},\"sink\":\"out\"}],\"edges\":[{\"from\":\"src\",\"to\":\"agg\",\"movement\":\"SCATTER_GATHER\",\"keys\":[0]}],\"conf\":{\"auto_parallel\":true,\"desired_bytes\":10}}";
+
+/// The first two lines have 6 and 24 bytes.
+const SHRINKS_LINES: &str = "first\nsecond-has-many-letters\nc\nd\n";
+
+fn job(alloc: Global, dag: &str, files: &[(&str, &str)]) -> Result<(Job, Conf), Fail> {
     let (plan, conf) = read_dag(alloc, dag.as_bytes())?;
     let mut sources = Vec::new(alloc);
-    sources.push((
-        Name::copy_of(alloc, "in.txt")?,
-        Bytes::new(source.as_bytes().to_vec(alloc)?),
-    ))?;
+    for (name, text) in files {
+        sources.push((
+            Name::copy_of(alloc, name)?,
+            Bytes::new(text.as_bytes().to_vec(alloc)?),
+        ))?;
+    }
     if !has_sources(&plan, &sources) {
         return Err(Fail::new("the DAG has another source"));
     }
@@ -41,10 +59,10 @@ fn job(alloc: Global, dag: &str, source: &str) -> Result<(Job, Conf), Fail> {
 fn world<S: OutputStore + Drop>(
     alloc: Global,
     dag: &str,
-    source: &str,
+    files: &[(&str, &str)],
     store: S,
 ) -> Result<World<SureDisk, S>, Fail> {
-    let (job, conf) = job(alloc, dag, source)?;
+    let (job, conf) = job(alloc, dag, files)?;
     let disk = SureDisk::new(Vec::new(alloc), Picker::Keep, alloc);
     match World::open(alloc, job, conf, Mode::Run, disk, store) {
         Ok(world) => Ok(world),
@@ -52,17 +70,48 @@ fn world<S: OutputStore + Drop>(
     }
 }
 
-/// Drives a world to its end: orders are worked at once, and this event comes once the trace has so
-/// many entries.
+/// When a loss comes.
+#[derive(Clone, Copy)]
+enum When {
+    /// Once the trace has so many entries.
+    At(usize),
+    /// Once this task has succeeded.
+    On(TaskId),
+    /// Once so many events were taken.
+    Changed(usize),
+}
+
+fn is_due(entries: &[Entry], changed: usize, when: When) -> bool {
+    match when {
+        When::At(many) => entries.len() >= many,
+        When::On(task) => has_succeeded(entries, task),
+        When::Changed(many) => changed >= many,
+    }
+}
+
+fn has_succeeded(entries: &[Entry], task: TaskId) -> bool {
+    for entry in entries {
+        if let Entry::Succeeded(a) = entry {
+            if a.task == task {
+                return true;
+            }
+        }
+    }
+    false
+}
+
+/// Drives a world to its end: orders are worked at once, and this event comes once it is due.
 fn run_with<S: OutputStore + Drop>(
     alloc: Global,
     world: &mut World<SureDisk, S>,
-    at: usize,
+    when: When,
     loss: CoreEvent,
 ) -> Result<Took, Fail> {
     let mut told = false;
-    for _turn in 0..1000 {
-        let event = if !told && world.trace().entries().len() >= at {
+    let mut changed = 0usize;
+    for turn in 0..1000 {
+        prove!(changed <= turn);
+        let event = if !told && is_due(world.trace().entries(), changed, when) {
             told = true;
             Some(Event::Core(loss))
         } else {
@@ -74,9 +123,10 @@ fn run_with<S: OutputStore + Drop>(
         let Some(event) = event else {
             return Err(Fail::new("nothing is next"));
         };
-        let took = world.step(alloc, event)?;
-        if let Took::Ended(_) = took {
-            return Ok(took);
+        match world.step(alloc, event)? {
+            Took::Ended(verdict) => return Ok(Took::Ended(verdict)),
+            Took::Changed => changed = changed.saturating_add(1),
+            Took::Ignored(_) => {}
         }
     }
     Err(Fail::new("no end"))
@@ -99,12 +149,17 @@ fn holds(rt: &impl Abort, store: &SureStore, text: &str) {
 #[test]
 fn a_lost_output_is_made_again(rt: HostRuntime) -> Result<(), Fail> {
     let alloc = rt.alloc();
-    let mut world = world(alloc, ONE_PLACE, "k\t5\n", SureStore::new(alloc))?;
+    let mut world = world(
+        alloc,
+        ONE_PLACE,
+        &[("in.txt", "k\t5\n")],
+        SureStore::new(alloc),
+    )?;
     let src = TaskId {
         vertex: VertexId(0),
         index: 0,
     };
-    let took = run_with(alloc, &mut world, 8, CoreEvent::LoseOutput(src))?;
+    let took = run_with(alloc, &mut world, When::At(8), CoreEvent::LoseOutput(src))?;
     assert!(rt; is_success(&took, (1, 4)));
     let (_disk, store, trace) = world.close();
     holds(&rt, &store, "k\t5\n");
@@ -116,8 +171,8 @@ fn a_lost_output_is_made_again(rt: HostRuntime) -> Result<(), Fail> {
 fn a_lost_node_changes_nothing(rt: HostRuntime) -> Result<(), Fail> {
     let alloc = rt.alloc();
     for at in 1..30 {
-        let mut world = world(alloc, WC, "a b a\n", SureStore::new(alloc))?;
-        let took = run_with(alloc, &mut world, at, CoreEvent::LoseNode(0))?;
+        let mut world = world(alloc, WC, &[("in.txt", "a b a\n")], SureStore::new(alloc))?;
+        let took = run_with(alloc, &mut world, When::At(at), CoreEvent::LoseNode(0))?;
         assert!(rt; is_success(&took, (2, 8)), "lost at {at}");
         let (_disk, store, _trace) = world.close();
         holds(&rt, &store, "a\t2\nb\t1\n");
@@ -126,9 +181,90 @@ fn a_lost_node_changes_nothing(rt: HostRuntime) -> Result<(), Fail> {
 }
 
 #[test]
+fn a_node_is_lost_after_eight_events(rt: HostRuntime) -> Result<(), Fail> {
+    let alloc = rt.alloc();
+    let mut world = world(alloc, WC, &[("in.txt", "a b a\n")], SureStore::new(alloc))?;
+    let took = run_with(alloc, &mut world, When::Changed(8), CoreEvent::LoseNode(0))?;
+    assert!(rt; is_success(&took, (2, 8)));
+    let (_disk, store, _trace) = world.close();
+    holds(&rt, &store, "a\t2\nb\t1\n");
+    Ok(())
+}
+
+/// A lost output that is broadcast is missed by a read, and its task runs again.
+#[test]
+fn a_lost_output_is_missed(rt: HostRuntime) -> Result<(), Fail> {
+    let alloc = rt.alloc();
+    let users = TaskId {
+        vertex: VertexId(0),
+        index: 1,
+    };
+    let mut world = world(alloc, ORDERS, &ORDERS_FILES, SureStore::new(alloc))?;
+    let took = run_with(
+        alloc,
+        &mut world,
+        When::On(users),
+        CoreEvent::LoseOutput(users),
+    )?;
+    assert!(rt; is_success(&took, (2, 12)));
+    let (_disk, store, trace) = world.close();
+    holds(&rt, &store, "DE\t15\nFR\t42\n");
+    let mut missed = 0u32;
+    let mut rerun = 0u32;
+    for entry in trace.entries() {
+        match entry {
+            Entry::ReadError(_, _, _, lost) if lost.task == users => missed = 1,
+            Entry::Rerun(lost) if lost.task == users => rerun = 1,
+            _ => {}
+        }
+    }
+    assert_eq!(rt; (missed, rerun), (1, 1));
+    Ok(())
+}
+
+/// How a vertex is configured after the first so many reports, and its sink.
+#[test]
+fn reports_shrink_a_vertex(rt: HostRuntime) -> Result<(), Fail> {
+    let alloc = rt.alloc();
+    for (reports, config) in [(1, "config 1 4 2\nend\n"), (2, "config 1 8 1\nend\n")] {
+        let files = [("in.txt", SHRINKS_LINES)];
+        let mut world = world(alloc, SHRINKS, &files, SureStore::new(alloc))?;
+        for _turn in 0..1000 {
+            let Some(event) = world.next() else {
+                break;
+            };
+            world.step(alloc, event)?;
+        }
+        for _report in 0..reports {
+            if let Some(order) = world.take_order() {
+                world.step(alloc, Event::Report(work(alloc, order)))?;
+            }
+        }
+        let Some(event) = world.next() else {
+            return Err(Fail::new("nothing is next"));
+        };
+        world.step(alloc, event)?;
+        let text = trace_text(alloc, world.trace())?;
+        assert!(rt;
+            text.as_slice().ends_with(config.as_bytes()),
+            "after {reports}"
+        );
+        let took = run_with(alloc, &mut world, When::At(1000), CoreEvent::Purge)?;
+        assert!(rt; is_success(&took, (4, 42)));
+        let (_disk, store, _trace) = world.close();
+        holds(
+            &rt,
+            &store,
+            "c\t1\nd\t1\nfirst\t1\nsecond-has-many-letters\t1\n",
+        );
+    }
+    Ok(())
+}
+
+#[test]
 fn a_report_is_taken_once(rt: HostRuntime) -> Result<(), Fail> {
     let alloc = rt.alloc();
-    let mut world = world(alloc, WC, "a b a\n", SureStore::new(alloc))?;
+    let mut world = world(alloc, WC, &[("in.txt", "a b a\n")], SureStore::new(alloc))?;
     for _turn in 0..1000 {
         if let Some(order) = world.take_order() {
             let again = order.copy(alloc)?;
@@ -164,8 +300,8 @@ fn a_report_is_taken_once(rt: HostRuntime) -> Result<(), Fail> {
 fn a_stage_that_fails_ends_the_run(rt: HostRuntime) -> Result<(), Fail> {
     let alloc = rt.alloc();
     let store = MemStore::new([2].to_vec(alloc)?, Vec::new(alloc), alloc);
-    let mut world = world(alloc, WC, "a b a\n", store)?;
-    let took = run_with(alloc, &mut world, 1000, CoreEvent::Purge)?;
+    let mut world = world(alloc, WC, &[("in.txt", "a b a\n")], store)?;
+    let took = run_with(alloc, &mut world, When::At(1000), CoreEvent::Purge)?;
     assert!(rt; matches!(took, Took::Ended(Verdict::DeviceFault(Device::Store))));
     let (_disk, store, _trace) = world.close();
     assert_eq!(rt; store.publications().len(), 0);

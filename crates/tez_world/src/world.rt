@@ -1,8 +1,9 @@
 //! The world of a job.
-ghost use Rattle.std.specs.Prelude.{◌≡◌, ◌≢◌, ◌≤◌, ◌↔◌, reverse, [], None, IfOk, IfErr, OnErr, IsTrue};
+ghost use Rattle.std.specs.Prelude.{◌≡◌, ◌≢◌, ◌≤◌, ◌↔◌, reverse, [], None, true, is_some, IfOk, IfErr, OnErr, IsTrue};
 ghost use Rattle.tez_ports.specs.Content.{Named, Told};
 ghost use Rattle.tez_world.specs.World.{Down, Up, Over, StepIs, Stands, StoreAfter, IsIgnored, FaultIs, IsNoFault, next_in, tail_of};
-ghost use Rattle.tez_world.specs.Driving.{IsDriven, StoreDriven};
+ghost use Rattle.tez_progress.specs.Laws.{IsIdle};
+ghost use Rattle.tez_world.specs.Driving.{IsDriven, IsStopped, StoreDriven, StoreStopped, FaultsAre, AreNoFaults};
 ghost use Rattle.tez_world.specs.Lawful.{IsTrace, IsGoing};
 
 use crate::event::Event;
@@ -72,29 +73,49 @@ impl<D: JournalDisk, S: OutputStore> World<D, S> {
         ensures fault { IfOk result (FaultIs (S.faults self.old.store) (S.stops self.old.store) (S.faults self.new.store) (S.stops self.new.store)) }
         ensures stays_sure { S.is_sure self.old.store → S.is_sure self.new.store }
         ensures sure { (before : Named) → S.is_sure self.old.store → Told (S.store self.old.store) (Stands self.old.run.job before self.old.run.past self.old.run.notes) → IfOk result IsNoFault }
+        // Whatever came, the trace is lawful, and while a master is up it goes on.
+        ensures trace { IsTrace self.new.run.job self.new.run.conf self.new.run.past }
+        ensures goes_on { self.new.run.phase ≡ Up → IsGoing self.new.run.job.plan self.new.run.conf self.new.run.past }
     {
-        self.run.step(alloc, &mut self.store, e)
+        let took = self.run.step(alloc, &mut self.store, e);
+        self.run.is_lawful();
+        took
     }
 
     /// The next event of the master's own, or that one begins. None after the end, and where there is
-    /// nothing to do but to wait for reports.
+    /// nothing to do but to wait for reports: a run that is not over is never stuck.
     pub fn next(&self) -> Option<Event>
-        ensures { result ≡ next_in self.now.run.job self.now.run.conf self.now.run.phase self.now.run.past }
+        ensures next { result ≡ next_in self.now.run.job self.now.run.conf self.now.run.phase self.now.run.past }
+        ensures goes_on { self.now.run.phase ≢ Over → IsIdle self.now.run.past → is_some result ≡ true }
     {
+        self.run.is_lawful();
         self.run.next()
     }
 
     /// Steps by these events, in their order, until they or the world end. Each step is as `step` has
-    /// it, and so is the store after the last one.
+    /// it, and so is the store after the last one. Where memory is short, some first of the steps were
+    /// taken. Whatever came and in whatever order, the trace is lawful, and a master that is up goes
+    /// on.
     pub fn drive(&mut self, alloc: Global, events: Vec<Event>) -> Result<Vec<Took>, AllocError>
         ensures job { self.new.run.job ≡ self.old.run.job }
         ensures conf { self.new.run.conf ≡ self.old.run.conf }
         ensures disk { self.new.disk ≡ self.old.disk }
         ensures steps { IfOk result (λ tooks. IsDriven self.old.run.job self.old.run.conf self.old.run.phase self.old.run.past events.items tooks.items self.new.run.phase self.new.run.past) }
+        ensures refused { OnErr result (IsStopped self.old.run.job self.old.run.conf self.old.run.phase self.old.run.past events.items self.new.run.phase self.new.run.past) }
         ensures store { (before : Named) → self.old.run.phase ≢ Over → Told (S.store self.old.store) (Stands self.old.run.job before self.old.run.past self.old.run.notes)
             → IfOk result (λ tooks. Told (S.store self.new.store) (StoreDriven self.old.run.job before tooks.items self.new.run.past self.new.run.notes)) }
+        ensures store_refused { (before : Named) → self.old.run.phase ≢ Over → Told (S.store self.old.store) (Stands self.old.run.job before self.old.run.past self.old.run.notes)
+            → OnErr result (Told (S.store self.new.store) (StoreStopped self.old.run.job before self.new.run.past self.new.run.notes)) }
+        ensures trace { IsTrace self.new.run.job self.new.run.conf self.new.run.past }
+        ensures goes_on { self.new.run.phase ≡ Up → IsGoing self.new.run.job.plan self.new.run.conf self.new.run.past }
+        // An end at a device comes where that device failed or was stopped, and never at a sure one.
+        ensures later { (S.faults self.old.store ≤ S.faults self.new.store) × (S.stops self.old.store ≤ S.stops self.new.store) }
+        ensures fault { IfOk result (λ tooks. FaultsAre (S.faults self.old.store) (S.stops self.old.store) (S.faults self.new.store) (S.stops self.new.store) tooks.items) }
         ensures stays_sure { S.is_sure self.old.store → S.is_sure self.new.store }
+        ensures sure { (before : Named) → self.old.run.phase ≢ Over → S.is_sure self.old.store → Told (S.store self.old.store) (Stands self.old.run.job before self.old.run.past self.old.run.notes)
+            → IfOk result (λ tooks. AreNoFaults tooks.items) }
     {
+        self.run.is_lawful();
         let mut tooks = Vec::with_capacity(alloc, events.len())?;
         for e in events {
             let took = self.step(alloc, e)?;

@@ -1,6 +1,6 @@
 use Rattle.std.proofs.Common.{refl, sym, inl, inr}
-use Rattle.std.specs.Prelude.{map, string_bytes}
-use Rattle.tez_am.proofs.Ending.{usage_ends, refused_ends, run_ends, run_traced}
+use Rattle.std.specs.Prelude.{reverse, map, string_bytes}
+use Rattle.tez_am.proofs.Ending.{usage_ends, refused_ends, run_ends, run_stages, run_traced}
 use Rattle.tez_am.proofs.RowLemmas.{rows_from_cause}
 use Rattle.tez_am.proofs.top.am_run.Goals as goal
 
@@ -55,4 +55,5 @@ pub returns-in-Err-clause-trace : goal.returns-in-Err-clause-trace
 returns-in-Err-clause-trace g c = inl refl
 
 pub returns-in-Ok-clause-trace : goal.returns-in-Ok-clause-trace
-returns-in-Ok-clause-trace g c = inr (run_traced (map string_bytes c.args.words.now) _ _ c.in-Ok.job c.in-Ok.conf c.run.new.log.entries (sym c.in-Some.ensures) c.in-Ok.ensures.job c.in-Ok.ensures.conf c.run.ensures.trace)
+returns-in-Ok-clause-trace g c = inr (run_traced (map string_bytes c.args.words.now) _ (g.S.OutputStore.store c.run.new.store) c.say-in-Ok.result _ c.in-Ok.job c.in-Ok.conf c.run.new.log.entries (sym c.in-Some.ensures) c.in-Ok.ensures.job c.in-Ok.ensures.conf c.run.ensures.trace
+    (run_stages _ _ c.in-Ok.job (reverse c.run.new.log.entries) c.run.result c.say-in-Ok.result c.run.ensures.staged c.run.ensures.cause c.say-in-Ok.ensures.said))

@@ -8,10 +8,10 @@ pub returns-clause-staged : goal.returns-clause-staged
 returns-clause-staged c = λ job k past a bytes before store m runs. reported_staged job k past a bytes m runs before store
 
 pub returns-clause-was_staged : goal.returns-clause-was_staged
-returns-clause-was_staged c = λ job k past a bytes before store m runs there. reported_plain job k past a bytes m runs before store (λ name s. there)
+returns-clause-was_staged c = λ job k past a bytes before store m runs there called. reported_plain job k past a bytes m runs before store (λ name s. there) (λ name s. called)
 
 pub returns-clause-no_sink : goal.returns-clause-no_sink
-returns-clause-no_sink c = λ job k past a bytes before store m runs none. reported_plain job k past a bytes m runs before store (λ name s. cc)
+returns-clause-no_sink c = λ job k past a bytes before store m runs none. reported_plain job k past a bytes m runs before store (λ name s. cc) (λ name s. cc)
 
 pub returns-clause-good : goal.returns-clause-good
 returns-clause-good c = reported_good

@@ -1,23 +1,26 @@
-use Rattle.std.specs.Prelude.{◌≡◌, ◌<◌, ℕ, option_map, if◌then◌else◌, length, map, Some, None, is_some, refl}
+use Rattle.std.specs.Prelude.{◌≡◌, ◌<◌, ℕ, option_map, if◌then◌else◌, length, map, unwrap_or, Some, None, is_some, refl}
 use Rattle.std.proofs.Common.{ap, sym, ◌∙◌, subst, inr}
 use Rattle.tez_record.specs.Bag.{text}
-use Rattle.tez_plan.specs.Dag.{Dag}
+use Rattle.tez_plan.specs.Dag.{Dag, edge}
 use Rattle.tez_ports.specs.Content.{Told, IsEither}
 use Rattle.tez_history.specs.History.{Past, extend}
 use Rattle.tez_history.specs.Steps.{done_entries}
+use Rattle.tez_shelves.specs.Piece.{bytes_on}
 use Rattle.tez_shelves.specs.Shelf.{shelf}
 use Rattle.tez_desks.specs.Desks.{DesksState}
 use Rattle.tez_control.specs.State.{MasterState}
 use Rattle.tez_control.specs.Settled.{after_done}
 use Rattle.tez_control.specs.Laws.{bytes_of}
 use Rattle.tez_keeping.specs.Keeping.{most_entries}
+use Rattle.tez_keeping.specs.Reports.{made_for}
 use Rattle.tez_master.specs.Master.{Reported, MasterParts, HasNumbers, entries_told}
 use Rattle.tez_control.specs.Steady.{IsSteady}
 use Rattle.tez_world.specs.World.{Notes, Stands}
 use Rattle.tez_world.specs.Holds.{notes_of}
 use Rattle.tez_world.specs.Reporting.{staged_for}
+use Rattle.tez_world.proofs.ReportBytes.{bytes_told, bytes_fit}
 use Rattle.tez_world.proofs.Taking.{length_extend, notes_settled}
-use Rattle.tez_world.proofs.Reported.{tried_told, fault_told, stands_told, numbers_now, steady_now, stage_now, works_now, done_holds, on_ok}
+use Rattle.tez_world.proofs.Reported.{tried_told, fault_told, stands_told, numbers_now, steady_now, stage_now, works_now, value_is, done_holds, on_ok}
 use Rattle.tez_world.proofs.reporting.done.Goals as goal
 
 pub returns-in-Err-NoMemory-clause-store_refused : goal.returns-in-Err-NoMemory-clause-store_refused
@@ -54,11 +57,17 @@ returns-clause-taken g c =
     let bytes = c.as_slice.result.now in
     let next : c.settle.new.log.past ≡ extend c.args.log.now.past (done_entries a (map bytes_of bytes)) =
     c.settle.ensures.past ∙ ap (λ (p : Past). extend p (entries_told c.in_ok-handled.handled)) c.make_room.ensures.log.past ∙ ap (extend c.args.log.now.past) (c.in_ok-handled.ensures.entries on) in
+    let bytes_are : bytes ≡ made_for c.args.job.now.plan a (λ n. unwrap_or (bytes_on (edge n) c.args.pieces) 0) =
+    c.as_slice.ensures.value ∙ subst (λ (d : Dag). c.in_ok-made.made.items ≡ made_for d a (λ n. unwrap_or (bytes_on (edge n) c.args.pieces) 0)) c.plan.ensures c.in_ok-made.ensures in
     let pend : c.done.new.self.pending ≡ Some (Reported a bytes) = c.in_ok-handled.ensures.pending ∙ ap (λ b. if b then Some (Reported a bytes) else None) on in
     let short : length c.settle.new.log.past < most_entries =
     subst (λ (n : ℕ). n < most_entries) (sym (ap length c.settle.ensures.past ∙ length_extend c.make_room.new.log.past (entries_told c.in_ok-handled.handled))) c.in_ok-make_room.ensures.short in (
       stage_now c.args.job.now c.args.conf.now c.args.running.now c.args.log.now.past a c.requires.holds c.requires.works.works,
-      (map bytes_of bytes, next),
+      (
+        value_is c.args.job.now c.args.conf.now c.args.running.now c.args.log.now.past c.args.at c.args.value.now c.args.pieces c.requires.holds c.requires.works c.requires.due,
+        bytes_fit c.args.job.now c.args.conf.now c.args.running.now c.args.log.now.past c.args.at c.args.value.now c.args.pieces c.requires.holds c.requires.works c.requires.due,
+        next ∙ ap (λ ms. extend c.args.log.now.past (done_entries a ms)) (ap (map bytes_of) bytes_are ∙ bytes_told c.args.job.now c.args.conf.now c.args.running.now c.args.log.now.past c.args.at c.args.value.now c.args.pieces c.requires.holds c.requires.works c.requires.due),
+      ),
       done_holds c.args.job.now c.args.conf.now c.args.running.now c.args.log.now.past c.args.at c.args.value.now c.args.pieces c.requires.holds c.requires.works c.requires.due c.settle.new.running c.settle.new.log.past bytes
           (record {
             master = ap (λ (m : MasterParts). m.state) (c.settle.ensures.master (Reported a bytes) pend) ∙ ap (λ (m : MasterState). after_done m a bytes) c.done.ensures.same;

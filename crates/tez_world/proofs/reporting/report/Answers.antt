@@ -29,7 +29,7 @@ pub returns-clause-taken : goal.returns-clause-taken
 returns-clause-taken g c =
     let here = c.in-Done.is in
     let done : c.into_parts-order.result.1 ≡ Done c.in-Done.value c.in-Done.pieces = cc in
-    ok_map _ _ c.done.result (λ took k. done_reported c.args.job.now c.args.conf.now c.args.r c.in-Done.value c.in-Done.pieces c.args.running.now c.args.log.now took c.done.new.running c.done.new.log (sym c.into_parts-order.ensures.outcome ∙ done) (subst (λ (a : AttemptId). IsDoneReport c.args.job.now c.args.conf.now a c.args.running.now c.args.log.now took c.done.new.running c.done.new.log) c.in-Ok.ensures.own k)) c.done.ensures.taken
+    ok_map _ _ c.done.result (λ took k. done_reported c.args.job.now c.args.conf.now c.args.r c.in-Done.value c.in-Done.pieces c.args.running.now c.args.log.now took c.done.new.running c.done.new.log (sym c.into_parts-order.ensures.outcome ∙ done) (subst (λ (a : AttemptId). IsDoneReport c.args.job.now c.args.conf.now a (Done c.in-Done.value c.in-Done.pieces) c.args.running.now c.args.log.now took c.done.new.running c.done.new.log) c.in-Ok.ensures.own k)) c.done.ensures.taken
 
 pub returns-in-Bad-clause-taken : goal.returns-in-Bad-clause-taken
 returns-in-Bad-clause-taken g c =

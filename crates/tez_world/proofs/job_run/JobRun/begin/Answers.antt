@@ -5,7 +5,8 @@ use Rattle.tez_world.specs.declared.opening.Began.TheVariants.{Up, Ended}
 use Rattle.tez_world.specs.World.{RunParts, Down, Over, Stands, StepIs, StoreAfter}
 use Rattle.tez_world.specs.declared.verdict.Took.TheVariants.{Changed as TookChanged, Ended as TookEnded}
 use Rattle.tez_world.specs.Holds.{phase_of, notes_of, notes_from}
-use Rattle.tez_world.proofs.RunLaws.{is_down, was_empty, up_world, up_step, up_stands, ended_steps, ended_stands, ended_fault}
+use Rattle.tez_world.proofs.Kept.{begun_world, ended_world}
+use Rattle.tez_world.proofs.RunLaws.{is_down, was_empty, up_step, up_stands, ended_steps, ended_stands, ended_fault}
 use Rattle.tez_world.proofs.job_run.JobRun.begin.Goals as goal
 
 pub invariant_of-self-in-Up : goal.invariant_of-self-in-Up
@@ -13,7 +14,7 @@ invariant_of-self-in-Up g c =
     let down : phase_of c.self.inside.running c.self.inside.over ≡ Down = ap (λ (w : RunParts). w.phase) c.self.view_is ∙ c.requires.down in
     let here = c.in-Up.is in
     let is : c.in_ok-running.field-0 ≡ Up c.in-Up.running = cc in
-    up_world c.self.inside.job c.self.inside.conf c.in-Up.running c.self.inside.over c.begin.new.log.past c.in_ok-running.field-0 (is_down c.self.inside.running c.self.inside.over down).0 is c.in_ok-running.ensures.began
+    begun_world c.self.inside.job c.self.inside.conf c.in-Up.running c.self.inside.over c.begin.new.log.past c.in_ok-running.field-0 (is_down c.self.inside.running c.self.inside.over down).0 is c.in_ok-running.ensures.began
 
 pub returns-in-Up-clause-step : goal.returns-in-Up-clause-step
 returns-in-Up-clause-step g c =
@@ -28,7 +29,7 @@ returns-in-Up-clause-store g c = λ before told.
     let down : phase_of c.self.inside.running c.self.inside.over ≡ Down = ap (λ (w : RunParts). w.phase) c.self.view_is ∙ c.requires.down in
     let here = c.in-Up.is in
     let is : c.in_ok-running.field-0 ≡ Up c.in-Up.running = cc in
-    let empty = was_empty c.self.inside.job c.self.inside.conf c.self.inside.running c.self.inside.over c.self.inside.log.past down c.self.invariant in
+    let empty = was_empty c.self.inside.job c.self.inside.conf c.self.inside.running c.self.inside.over c.self.inside.log.past down c.self.invariant.parts in
     subst (λ (w : RunParts). Told (g.S.OutputStore.store c.begin.new.store) (Stands w.job before c.begin.new.log.past (notes_of c.in-Up.running))) c.self.view_is
     (up_stands c.self.inside.job c.self.inside.conf before c.self.inside.log.past c.begin.new.log.past _ c.in-Up.running c.in_ok-running.field-0 (g.S.OutputStore.store c.args.store.now) (g.S.OutputStore.store c.begin.new.store) empty is c.in_ok-running.ensures.rows c.in_ok-running.ensures.began c.in_ok-running.ensures.same c.in_ok-running.ensures.store
     (subst (λ (w : RunParts). Told (g.S.OutputStore.store c.args.store.now) (Stands w.job before w.past w.notes)) (sym c.self.view_is) told))
@@ -38,7 +39,7 @@ returns-clause-step g c =
     let down : phase_of c.self.inside.running c.self.inside.over ≡ Down = ap (λ (w : RunParts). w.phase) c.self.view_is ∙ c.requires.down in
     let here = c.in-Ended.is in
     let is : c.in_ok-running.field-0 ≡ Ended c.in-Ended.verdict = cc in
-    let empty = was_empty c.self.inside.job c.self.inside.conf c.self.inside.running c.self.inside.over c.self.inside.log.past down c.self.invariant in
+    let empty = was_empty c.self.inside.job c.self.inside.conf c.self.inside.running c.self.inside.over c.self.inside.log.past down c.self.invariant.parts in
     subst (λ (w : RunParts). StepIs w.job w.conf w.phase w.past c.args.e (TookEnded c.in-Ended.verdict) Over c.begin.new.log.past) c.self.view_is
     (ended_steps c.self.inside.job c.self.inside.conf (phase_of c.self.inside.running c.self.inside.over) c.self.inside.log.past c.args.e c.in-Ended.verdict c.begin.new.log.past c.in_ok-running.field-0 down empty is c.in_ok-running.ensures.began)
 
@@ -47,7 +48,7 @@ returns-clause-store g c = λ before told.
     let down : phase_of c.self.inside.running c.self.inside.over ≡ Down = ap (λ (w : RunParts). w.phase) c.self.view_is ∙ c.requires.down in
     let here = c.in-Ended.is in
     let is : c.in_ok-running.field-0 ≡ Ended c.in-Ended.verdict = cc in
-    let empty = was_empty c.self.inside.job c.self.inside.conf c.self.inside.running c.self.inside.over c.self.inside.log.past down c.self.invariant in
+    let empty = was_empty c.self.inside.job c.self.inside.conf c.self.inside.running c.self.inside.over c.self.inside.log.past down c.self.invariant.parts in
     subst (λ (w : RunParts). Told (g.S.OutputStore.store c.begin.new.store) (StoreAfter w.job before (TookEnded c.in-Ended.verdict) c.begin.new.log.past (notes_from c.self.inside.running))) c.self.view_is
     (ended_stands c.self.inside.job c.self.inside.conf before c.self.inside.log.past c.begin.new.log.past (notes_from c.self.inside.running) (notes_from c.self.inside.running) c.in-Ended.verdict c.in_ok-running.field-0 (g.S.OutputStore.store c.args.store.now) (g.S.OutputStore.store c.begin.new.store) empty is c.in_ok-running.ensures.began c.in_ok-running.ensures.same c.in_ok-running.ensures.store
     (subst (λ (w : RunParts). Told (g.S.OutputStore.store c.args.store.now) (Stands w.job before w.past w.notes)) (sym c.self.view_is) told))

@@ -9,5 +9,5 @@ returns-in-Some c =
     let here = c.in-Some.is in
     let running : c.self.inside.running ≡ Some c.in-Some.running = cc in
     c.core_event.ensures
-    ∙ next_up c.self.inside.job c.self.inside.conf c.self.inside.running c.self.inside.over c.self.inside.log.past c.in-Some.running c.if-self.false running c.self.invariant c.choice.ensures.0 c.choice.ensures.1 c.choice.result c.choice.ensures.2
+    ∙ next_up c.self.inside.job c.self.inside.conf c.self.inside.running c.self.inside.over c.self.inside.log.past c.in-Some.running c.if-self.false running c.self.invariant.parts c.choice.ensures.0 c.choice.ensures.1 c.choice.result c.choice.ensures.2
     ∙ ap (λ (w : RunParts). next_in w.job w.conf w.phase w.past) c.self.view_is

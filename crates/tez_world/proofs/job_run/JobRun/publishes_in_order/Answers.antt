@@ -9,4 +9,4 @@ use Rattle.tez_world.proofs.job_run.JobRun.publishes_in_order.Goals as goal
 pub returns : goal.returns
 returns c =
     subst (λ (w : RunParts). (before : Named) (s : Store) → w.phase ≢ Over → Stands w.job before w.past w.notes s → HasPublished w.job before s) c.self.view_is
-    (λ before s going stands. in_order c.self.inside.job c.self.inside.conf c.self.inside.running c.self.inside.over c.self.inside.log.past before _ s c.self.invariant going stands)
+    (λ before s going stands. in_order c.self.inside.job c.self.inside.conf c.self.inside.running c.self.inside.over c.self.inside.log.past before _ s c.self.invariant.parts going stands)

@@ -4,8 +4,9 @@ use Rattle.tez_ports.specs.Content.{Told}
 use Rattle.tez_meaning.specs.Jobs.{Job}
 use Rattle.tez_world.specs.World.{RunParts, Stands, StoreAfter}
 use Rattle.tez_world.specs.Holds.{IsWorld, notes_of}
-use Rattle.tez_world.proofs.RunLaws.{holds_inside, told_inside}
-use Rattle.tez_world.proofs.StepLaws.{err_any, world_is}
+use Rattle.tez_world.proofs.Kept.{took_world}
+use Rattle.tez_world.proofs.RunLaws.{world_inside, told_inside}
+use Rattle.tez_world.proofs.StepLaws.{err_any}
 use Rattle.tez_world.proofs.job_run.JobRun.step.Goals as goal
 
 pub returns-in_default-clause-store : goal.returns-in_default-clause-store
@@ -26,6 +27,6 @@ pub invariant_of-self-2 : goal.invariant_of-self-2
 invariant_of-self-2 g c =
     let here = c.in-Some.is in
     let running : c.self.inside.running ≡ Some c.in-Some.running = cc in
-    let holds = holds_inside c.self.inside.job c.self.inside.conf c.self.inside.running c.self.inside.over c.self.inside.log.past c.in-Some.running c.if-self.false running c.self.invariant in
+    let world = world_inside c.self.inside.job c.self.inside.conf c.self.inside.running c.self.inside.over c.self.inside.log.past c.in-Some.running c.if-self.false running c.self.invariant in
     subst (λ b. IsWorld c.self.inside.job c.self.inside.conf (Some c.take.new.running) b c.take.new.log.past) (sym c.is_ended-self-inside.ensures)
-    (world_is c.self.inside.job c.self.inside.conf c.args.e c.in-Some.running c.self.inside.log c.in_ok-took.took c.take.new.running c.take.new.log holds c.in_ok-took.ensures.taken)
+    (took_world c.self.inside.job c.self.inside.conf c.args.e c.in-Some.running c.self.inside.log c.in_ok-took.took c.take.new.running c.take.new.log world c.in_ok-took.ensures.taken)
