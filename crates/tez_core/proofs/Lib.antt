@@ -2,3 +2,4 @@ pub mod Firsts
 pub mod Plans
 pub mod LostLemmas
 mod Given
+pub mod Taken

@@ -96,6 +96,15 @@ impl Core {
         self.conf.values().per_node
     }
 
+    /// At how many failures a task is spent.
+    pub fn max_failed(&self) -> u32
+        ensures limit { result ≡ self.now.conf.max_failed }
+        ensures some { 1 ≤ result }
+        ensures few { result ≤ 100 }
+    {
+        self.conf.values().max_failed
+    }
+
     /// Who holds a place.
     pub fn holder(&self, place: u32) -> Option<AttemptId>
         ensures { result ≡ held_at self.now.pool.places place }

@@ -1,8 +1,10 @@
 //! The parts of a master that begins.
-ghost use Rattle.std.specs.Prelude.{◌≡◌, ◌<◌, map, IfOk};
+ghost use Rattle.std.specs.Prelude.{◌≡◌, ◌<◌, false, map, length, replicate, IfOk, IfErr};
 ghost use Rattle.tez_plan.specs.Dag.{vertex};
 ghost use Rattle.tez_vertex.specs.Table.{new_vertex};
 ghost use Rattle.tez_vertex_view.specs.View.{new_vertices};
+ghost use Rattle.tez_router.specs.Planned.{planned_router};
+ghost use Rattle.tez_schedule.specs.Planned.{planned_schedule};
 ghost use Rattle.tez_core.specs.Fresh.{fresh, no_lies};
 
 use crate::lies::Lies;
@@ -16,24 +18,42 @@ use tez_router::Router;
 use tez_schedule::Schedule;
 use tez_vertex::VertexMachine;
 
+// What a master begins with, beside its places.
+#[derive(Drop)]
+struct NewParts {
+    vertices: Vec<VertexMachine>,
+    router: Router,
+    schedule: Schedule,
+    lies: Vec<Lies>,
+    readied: Vec<bool>,
+    published: Vec<bool>,
+}
+
 impl Core {
-    /// The parts of a master that begins with these places: nothing is configured, queued or won.
+    /// The parts of a master that begins with these places: nothing is configured, queued or won. The
+    /// places are handed back where there is no memory.
     pub fn new(
         alloc: Global,
         plan: Plan,
         conf: Conf,
         epoch: Epoch,
         pool: Pool,
-    ) -> Result<Core, AllocError>
-        ensures { IfOk result (λ m. m ≡ fresh plan conf epoch.0 pool) }
+    ) -> Result<Core, Pool>
+        ensures fresh { IfOk result (λ m. m ≡ fresh plan conf epoch.0 pool) }
+        ensures handed_back { IfErr result (λ back. back ≡ pool) }
     {
-        let count = plan.vertices().len();
-        let vertices = new_vertices(alloc, &plan, &conf, epoch)?;
-        let router = Router::new(alloc, &plan)?;
-        let schedule = Schedule::new(alloc, &plan, &conf)?;
-        let lies = no_lies(alloc, plan.vertices())?;
-        let readied = vec![in alloc; false; count]?;
-        let published = vec![in alloc; false; count]?;
+        let parts = match new_parts(alloc, &plan, &conf, epoch) {
+            Ok(parts) => parts,
+            Err(_) => return Err(pool),
+        };
+        let NewParts {
+            vertices,
+            router,
+            schedule,
+            lies,
+            readied,
+            published,
+        } = parts;
         Ok(Core {
             plan,
             conf,
@@ -50,6 +70,32 @@ impl Core {
             up: true,
         })
     }
+
+    /// The places alone.
+    pub fn into_pool(self) -> Pool
+        ensures { result ≡ self.pool }
+    {
+        self.pool
+    }
+}
+
+fn new_parts(alloc: Global, plan: &Plan, conf: &Conf, epoch: Epoch) -> Result<NewParts, AllocError>
+    ensures vertices { IfOk result (λ x. x.vertices.items ≡ new_vertices plan.now conf.now epoch.0) }
+    ensures router { IfOk result (λ x. x.router ≡ planned_router plan.now) }
+    ensures schedule { IfOk result (λ x. x.schedule ≡ planned_schedule plan.now conf.now) }
+    ensures lies { IfOk result (λ x. x.lies.items ≡ map no_lies plan.now.vertices) }
+    ensures readied { IfOk result (λ x. x.readied.items ≡ replicate (length plan.now.vertices) false) }
+    ensures published { IfOk result (λ x. x.published.items ≡ replicate (length plan.now.vertices) false) }
+{
+    let count = plan.vertices().len();
+    Ok(NewParts {
+        vertices: new_vertices(alloc, plan, conf, epoch)?,
+        router: Router::new(alloc, plan)?,
+        schedule: Schedule::new(alloc, plan, conf)?,
+        lies: no_lies(alloc, plan.vertices())?,
+        readied: vec![in alloc; false; count]?,
+        published: vec![in alloc; false; count]?,
+    })
 }
 
 fn new_vertices(

@@ -8,12 +8,14 @@ mod configure;
 mod enabled;
 mod flags;
 mod fresh;
+mod kept_winner;
 mod lies;
 mod lost;
 mod new_tasks;
 mod parts;
 mod prepared;
 mod reads;
+mod restoring;
 mod shallower;
 mod sinks;
 mod tasks;
@@ -21,5 +23,6 @@ mod telling;
 #[cfg(test)]
 mod tests;
 
+pub use kept_winner::Kept;
 pub use parts::Core;
 pub use prepared::NewConfig;

@@ -1,10 +1,16 @@
-use crate::Core;
+ghost use Rattle.std.specs.Prelude.{◌≡◌, true, IfSome};
+ghost use Rattle.tez_vertex.specs.Table.{IsFresh};
+ghost use Rattle.tez_control.specs.Read.{task_in};
+ghost use Rattle.tez_recovery.specs.Recovery.{IsNew};
+
+use crate::tasks::vertex_of;
+use crate::{Core, Kept};
 use std::alloc::{AllocError, Global};
 use std::process::Abort;
 use tez_conf::defaults;
 use tez_control::Why;
 use tez_events::CoreEvent;
-use tez_ids::{AttemptId, EdgeId, Epoch, Name, TaskId, VertexId};
+use tez_ids::{AttemptId, EdgeId, Epoch, Name, NodeId, TaskId, VertexId};
 use tez_plan::{EdgeSpec, Head, Movement, Plan, Steps, VertexSpec, are_in_ranges, plan_new};
 use tez_pool::Pool;
 use tez_vman::Config;
@@ -119,6 +125,49 @@ fn work(rt: &impl Abort, core: &mut Core, a: AttemptId) {
     assert!(rt; core.winner_of(a.task) == Some(a));
 }
 
+// A vertex has its one task again.
+fn stand(rt: &impl Abort, alloc: Global, core: &mut Core, v: u16) {
+    let v = VertexId(v);
+    let config = Config { tasks: 1, base: 1 };
+    assert!(rt; core.router.can_configure(v, config));
+    assert!(rt; core.schedule.can_configure(v, config));
+    assert!(rt; core.stand(alloc, v, config).is_ok());
+    assert!(rt; core.config_of(v) == Some(config));
+}
+
+// One failure more of a task that was never queued would not spend it.
+fn may_fail_again(core: &Core, t: TaskId, failures: u32) -> bool
+    ensures { result ≡ true → IfSome (task_in core.now t) (IsFresh failures) }
+{
+    match vertex_of(&core.vertices, t) {
+        Some(x) => {
+            let most = x.failures(t.index) as u64 + 1;
+            x.queued(t.index) == 0 && !x.is_last(t.index) && failures as u64 <= most
+        }
+        None => true,
+    }
+}
+
+fn carry(rt: &impl Abort, core: &mut Core, t: TaskId, failures: u32) {
+    assert!(rt; may_fail_again(core, t, failures));
+    core.carry(t, failures);
+}
+
+fn is_new(core: &Core, t: TaskId) -> bool
+    ensures { result ≡ true → IfSome (task_in core.now t) IsNew }
+{
+    match vertex_of(&core.vertices, t) {
+        Some(x) => x.queued(t.index) == 0 && !x.is_last(t.index),
+        None => true,
+    }
+}
+
+fn keep(rt: &impl Abort, core: &mut Core, k: &Kept) {
+    assert!(rt; core.is_task(k.attempt().task));
+    assert!(rt; is_new(core, k.attempt().task));
+    core.keep(k);
+}
+
 fn commit(rt: &impl Abort, core: &mut Core) {
     let sink = SINK.vertex;
     assert!(rt; core.is_enabled(&CoreEvent::Ready(sink)));
@@ -141,7 +190,8 @@ fn output_that_is_lost_is_made_again(rt: HostRuntime) {
         .expect(&rt, "memory")
         .expect(&rt, "a plan");
     let pool = Pool::new(alloc, 1, 1, true).expect(&rt, "memory");
-    let mut core = Core::new(alloc, plan, defaults(), Epoch(2), pool).expect(&rt, "memory");
+    let begun = Core::new(alloc, plan, defaults(), Epoch(2), pool).ok();
+    let mut core = begun.expect(&rt, "memory");
     let (first, second) = (attempt(2, SOURCE, 0), attempt(2, SINK, 0));
     let (again, last) = (attempt(2, SOURCE, 1), attempt(2, SINK, 1));
     configure(&rt, alloc, &mut core, 0);
@@ -177,7 +227,8 @@ fn why_events_are_ignored(rt: HostRuntime) {
         .expect(&rt, "memory")
         .expect(&rt, "a plan");
     let pool = Pool::new(alloc, 1, 1, true).expect(&rt, "memory");
-    let mut core = Core::new(alloc, plan, defaults(), Epoch(2), pool).expect(&rt, "memory");
+    let begun = Core::new(alloc, plan, defaults(), Epoch(2), pool).ok();
+    let mut core = begun.expect(&rt, "memory");
     configure(&rt, alloc, &mut core, 0);
     queue(&rt, &mut core, SOURCE);
     let rows = [
@@ -195,4 +246,36 @@ fn why_events_are_ignored(rt: HostRuntime) {
     assert_eq!(rt; core.progress(VertexId(0)), (0, 1));
     assert_eq!(rt; core.config_of(VertexId(1)), None);
     assert_eq!(rt; core.free_place(), Some(0));
+}
+
+#[test]
+fn a_master_goes_on(rt: HostRuntime) {
+    let alloc = rt.alloc();
+    let plan = two_vertices(alloc)
+        .expect(&rt, "memory")
+        .expect(&rt, "a plan");
+    let pool = Pool::new(alloc, 1, 1, true).expect(&rt, "memory");
+    let begun = Core::new(alloc, plan, defaults(), Epoch(2), pool).ok();
+    let mut core = begun.expect(&rt, "memory");
+    let (won, next) = (attempt(1, SOURCE, 3), attempt(2, SINK, 0));
+    let node = NodeId { slot: 0, life: 0 };
+    stand(&rt, alloc, &mut core, 0);
+    stand(&rt, alloc, &mut core, 1);
+    for failures in [1, 2, 3] {
+        assert!(rt; !core.is_last(SINK));
+        carry(&rt, &mut core, SINK, failures);
+    }
+    assert!(rt; core.is_last(SINK));
+    assert!(rt; !core.may_queue(SINK));
+    keep(&rt, &mut core, &Kept::new(won, Some(node), Vec::new(alloc)));
+    assert!(rt; core.winner_of(SOURCE) == Some(won));
+    assert!(rt; core.is_on_shelf(won));
+    assert_eq!(rt; core.progress(VertexId(0)), (1, 1));
+    assert!(rt; !core.may_queue(SOURCE));
+    queue(&rt, &mut core, SINK);
+    place(&rt, alloc, &mut core, next);
+    fetch(&rt, &mut core, next);
+    work(&rt, &mut core, next);
+    commit(&rt, &mut core);
+    assert_eq!(rt; core.into_pool().places(), 1);
 }

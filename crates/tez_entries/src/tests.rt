@@ -56,7 +56,8 @@ fn entries_of_a_master_that_begins(rt: HostRuntime) {
         .expect(&rt, "memory")
         .expect(&rt, "a plan");
     let pool = Pool::new(alloc, 1, 1, true).expect(&rt, "memory");
-    let mut core = Core::new(alloc, plan, defaults(), Epoch(2), pool).expect(&rt, "memory");
+    let begun = Core::new(alloc, plan, defaults(), Epoch(2), pool).ok();
+    let mut core = begun.expect(&rt, "memory");
     let queued = Entry::Queued(FIRST);
     let placed = Entry::Placed(FIRST, ContainerId(0), 0);
     let configured = Entry::Configured(TASK.vertex, 1, 1);

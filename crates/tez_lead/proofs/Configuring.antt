@@ -1,10 +1,9 @@
 -- A vertex that is configured gets tasks of which none is queued.
-use Rattle.std.specs.Prelude.{◌≡◌, ℕ, zero, suc, ◌+◌, ◌<◌, ◌≤◌, ◌&&◌, nat_le, is_none, Bool, true, false, if◌then◌else◌, List, [], ◌∷◌, map, length, slice_get, Option, Some, None, IfSome, is_some, refl, option_and_then}
+use Rattle.std.specs.Prelude.{◌≡◌, ℕ, zero, suc, ◌+◌, ◌≤◌, Bool, true, false, if◌then◌else◌, List, [], ◌∷◌, map, length, slice_get, Option, Some, None, IfSome, is_some, refl, option_and_then}
 use Rattle.std.specs.Option.{option_map, option_map_or}
 use Rattle.std.proofs.Common.{ap, sym, ◌∙◌, subst, arith, inl, inr, ◌⊎◌}
 use Rattle.std.proofs.lemmas.Bool.Decides.{nat_tests}
 use Rattle.std.proofs.lemmas.Option.{same_Some, slice_get-map}
-use Rattle.tez_ids.specs.declared.TaskId.{TaskId}
 use Rattle.tez_ids.specs.declared.VertexId.{VertexId}
 use Rattle.tez_ids.specs.Same.{task}
 use Rattle.tez_lists.specs.Numbers.{numbers_from}
@@ -24,7 +23,7 @@ use Rattle.tez_queue.specs.Queue.{Queue as Waiting}
 use Rattle.tez_control.specs.State.{MasterState}
 use Rattle.tez_control.specs.Settled.{settled, with_config}
 use Rattle.tez_core.specs.Choosing.{queued_one}
-use Rattle.tez_lead.specs.Kept.{IsTask, IsVertex, AreVertices, IsKept, is_waiting, queue_of}
+use Rattle.tez_lead.specs.Kept.{IsTask, IsVertex, AreVertices, IsKept, is_waiting}
 use Rattle.tez_lead.proofs.Lists.{tells, long_map}
 use Rattle.tez_lead.proofs.Tasks.{change_none, change_here, change_elsewhere, vertices_change}
 use Rattle.tez_lead.proofs.Layouts.{layout_changed}
@@ -46,7 +45,7 @@ new_is v x n i t e h =
     ∙ ap (λ (u : VertexId). new_task (task u.0 i) x.epoch x.max_failed) e
 
 new_keeps : (v i epoch max_failed : ℕ) → IsTask (task v i) (new_task (task v i) epoch max_failed)
-new_keeps v i epoch max_failed = record { task_is = refl; live_is = λ l h. cc; winner_is = λ w h. cc; one = λ l h. cc }
+new_keeps v i epoch max_failed = record { task_is = refl; live_is = λ l h. cc; winner_is = λ w h. cc; one = λ l h. cc; begun = λ l h. cc }
 
 -- ---- the vertex
 
@@ -110,7 +109,7 @@ same_waits g vs v n w i k = by (tells v w) where
 config_stays : (m : MasterState) (v : ℕ) (c : Config) → Stays m (with_config m v c)
 config_stays m v c = record { plan = refl; conf = refl; within = λ h. h; per_node = refl; layouts = layout_changed m.schedule.vertices v (configured_with c) (λ x. refl) }
 
-config_kept : (m : MasterState) (v : ℕ) (c : Config) (q : Waiting) → can_configure m.schedule v c ≡ true → IsKept m q → IsKept (with_config m v c) q
+pub config_kept : (m : MasterState) (v : ℕ) (c : Config) (q : Waiting) → can_configure m.schedule v c ≡ true → IsKept m q → IsKept (with_config m v c) q
 config_kept m v c q h k =
     let few : c.tasks ≤ planned m.plan v = subst (λ n. c.tasks ≤ n) (k.fit.tasks v) (in_plan m.schedule.vertices v c h) in
     record {

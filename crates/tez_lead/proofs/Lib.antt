@@ -8,3 +8,4 @@ pub mod NodeLoss
 pub mod Beginning
 pub mod Steps
 pub mod Configuring
+pub mod Taken

@@ -1,5 +1,5 @@
 -- An event of a task changes this task alone, and keeps what a task keeps.
-use Rattle.std.specs.Prelude.{◌≡◌, ℕ, suc, ◌+◌, ◌<◌, ◌≤◌, ◌==◌, ◌&&◌, ◌||◌, Bool, true, false, if◌then◌else◌, List, length, slice_get, slice_set, Option, Some, None, is_some, refl, option_and_then}
+use Rattle.std.specs.Prelude.{◌≡◌, ℕ, ◌+◌, ◌≤◌, ◌==◌, ◌&&◌, ◌||◌, Bool, true, false, if◌then◌else◌, List, length, slice_get, slice_set, Option, Some, None, is_some, refl, option_and_then}
 use Rattle.std.specs.Option.{option_map, option_map_or}
 use Rattle.std.proofs.Common.{ap, sym, ◌∙◌, subst, arith, inl, inr, ◌⊎◌, length-set}
 use Rattle.std.proofs.lemmas.Bool.Decides.{nat_tests}
@@ -17,7 +17,7 @@ use Rattle.tez_task.specs.declared.Live.{Live}
 use Rattle.tez_task.specs.declared.TaskEvent.{TaskEvent}
 use Rattle.tez_task.specs.declared.TaskEvent.TheVariants.{Queue, Place, Send, Succeed, Fail, Kill, Lose}
 use Rattle.tez_task.specs.TaskState.{TaskState}
-use Rattle.tez_task.specs.Table.{state_of, moved_live, is_winner, is_last, next_of, queued_again, advanced, succeeded, after_failure, failed, killed, after_event, task_after}
+use Rattle.tez_task.specs.Table.{moved_live, is_winner, is_last, queued_again, advanced, succeeded, failed, killed, after_event, task_after}
 use Rattle.tez_vertex.specs.Vertex.{Vertex}
 use Rattle.tez_vertex.specs.Table.{task_of, take_by, after_take}
 use Rattle.tez_vertex_view.specs.View.{change, change_by, take_in}
@@ -73,22 +73,24 @@ at_vertex vs u x h = ap (option_and_then (λ y. task_of y u.index)) h
 not_both : (a b c d : ℕ) → a ≡ c → b ≡ d → ((a == c) && (b == d)) ≡ false → ⊥
 not_both a b c d e f n = grind (arith, nat_tests)
 
-pub took_elsewhere : (vs : List Vertex) (t u : TaskId) (e : TaskEvent) → same_task t u ≡ false → task_at (take_in vs t e) u ≡ task_at vs u
-took_elsewhere vs t u e ne = by (tells t.vertex.0 u.vertex.0) where
-  f : Vertex → Vertex
-  f s = after_take s t.index e
-
-  at : t.vertex.0 ≡ u.vertex.0 → (o : Option Vertex) → slice_get vs u.vertex.0 ≡ o → task_at (take_in vs t e) u ≡ task_at vs u
+-- a change of one task of a vertex changes no other
+pub changed_elsewhere : (vs : List Vertex) (t u : TaskId) (f : Vertex → Vertex) → ((x : Vertex) (j : ℕ) → (t.index ≡ j → ⊥) → task_of (f x) j ≡ task_of x j)
+    → same_task t u ≡ false → task_at (change vs t.vertex.0 f) u ≡ task_at vs u
+changed_elsewhere vs t u f rest ne = by (tells t.vertex.0 u.vertex.0) where
+  at : t.vertex.0 ≡ u.vertex.0 → (o : Option Vertex) → slice_get vs u.vertex.0 ≡ o → task_at (change vs t.vertex.0 f) u ≡ task_at vs u
   at q None h = ap (λ ws. task_at ws u) (change_none vs t.vertex.0 f (ap (slice_get vs) q ∙ h))
   at q (Some x) h =
-      let new : slice_get (take_in vs t e) u.vertex.0 ≡ Some (after_take x t.index e) = ap (slice_get (take_in vs t e)) (sym q) ∙ change_here vs t.vertex.0 f x (ap (slice_get vs) q ∙ h) in
-      at_vertex (take_in vs t e) u (after_take x t.index e) new
-      ∙ after_elsewhere x t.index u.index e (λ i. not_both t.vertex.0 t.index u.vertex.0 u.index q i ne)
+      let new : slice_get (change vs t.vertex.0 f) u.vertex.0 ≡ Some (f x) = ap (slice_get (change vs t.vertex.0 f)) (sym q) ∙ change_here vs t.vertex.0 f x (ap (slice_get vs) q ∙ h) in
+      at_vertex (change vs t.vertex.0 f) u (f x) new
+      ∙ rest x u.index (λ i. not_both t.vertex.0 t.index u.vertex.0 u.index q i ne)
       ∙ sym (at_vertex vs u x h)
 
-  by : (t.vertex.0 ≡ u.vertex.0) ⊎ (t.vertex.0 ≡ u.vertex.0 → ⊥) → task_at (take_in vs t e) u ≡ task_at vs u
+  by : (t.vertex.0 ≡ u.vertex.0) ⊎ (t.vertex.0 ≡ u.vertex.0 → ⊥) → task_at (change vs t.vertex.0 f) u ≡ task_at vs u
   by (inl q) = at q (slice_get vs u.vertex.0) refl
   by (inr n) = ap (option_and_then (λ x. task_of x u.index)) (change_elsewhere vs t.vertex.0 u.vertex.0 f n)
+
+pub took_elsewhere : (vs : List Vertex) (t u : TaskId) (e : TaskEvent) → same_task t u ≡ false → task_at (take_in vs t e) u ≡ task_at vs u
+took_elsewhere vs t u e ne = changed_elsewhere vs t u (λ s. after_take s t.index e) (λ x j n. after_elsewhere x t.index j e n) ne
 
 pub took_here : (vs : List Vertex) (t : TaskId) (e : TaskEvent) → task_at (take_in vs t e) t ≡ option_map (λ s. task_after s e) (task_at vs t)
 took_here vs t e = by (slice_get vs t.vertex.0) refl where
@@ -124,6 +126,7 @@ again_keeps t s is = record {
   live_is = λ l h. ap (λ (o : Option Live). option_map_or (λ (k : Live). k.attempt.task) o t) (sym h) ∙ is;
   winner_is = λ w h. cc;
   one = λ l h. refl;
+  begun = λ l h. omega arith;
 }
 
 advanced_keeps : (t : TaskId) (s : TaskState) (a : AttemptId) (ev : AttemptEvent) → IsTask t s → IsTask t (advanced s a (moved_live s.live a ev))
@@ -137,6 +140,7 @@ advanced_keeps t s a ev k = by (moved_live s.live a ev) refl where
         live_is = λ l g. ap (λ (o : Option Live). option_map_or (λ (m : Live). m.attempt.task) o t) (sym g) ∙ ap (λ (b : AttemptId). b.task) (sym n.2) ∙ k.live_is n.0 n.1;
         winner_is = k.winner_is;
         one = λ l g. k.one n.0 n.1;
+        begun = λ l g. k.begun n.0 n.1;
       }
 
 succeeded_keeps : (t : TaskId) (s : TaskState) (a : AttemptId) (ev : AttemptEvent) → IsTask t s → IsTask t (succeeded s a (moved_live s.live a ev))
@@ -150,13 +154,14 @@ succeeded_keeps t s a ev k = by (moved_live s.live a ev) refl where
         live_is = λ l g. cc;
         winner_is = λ w g. ap (λ (b : AttemptId). b.task) (same_Some w a (sym g)) ∙ ap (λ (b : AttemptId). b.task) (sym n.2) ∙ k.live_is n.0 n.1;
         one = λ l g. cc;
+        begun = λ l g. cc;
       }
 
 failed_keeps : (t : TaskId) (s : TaskState) (o : Option AttemptState) → IsTask t s → IsTask t (failed s o)
 failed_keeps t s None k = k
 failed_keeps t s (Some state) k = by (is_last s) where
   by : (b : Bool) → IsTask t (if b then record s { live = None; failures = s.failures + 1; spent = true } else queued_again (record s { failures = s.failures + 1 }))
-  by true = record { task_is = k.task_is; live_is = λ l g. cc; winner_is = k.winner_is; one = λ l g. cc }
+  by true = record { task_is = k.task_is; live_is = λ l g. cc; winner_is = k.winner_is; one = λ l g. cc; begun = λ l g. cc }
   by false = again_keeps t (record s { failures = s.failures + 1 }) k.task_is
 
 killed_keeps : (t : TaskId) (s : TaskState) (o : Option AttemptState) → IsTask t s → IsTask t (killed s o)

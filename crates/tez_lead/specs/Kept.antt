@@ -1,12 +1,12 @@
 -- What the type of a lead keeps.
 --     is_waiting vs v i    an attempt of this task is queued
 --     queue_of g vs        the tasks of the plan of which an attempt is queued
---     IsTask t s           a task at its number: its attempts are its own, and it has no winner while one is live
+--     IsTask t s           a task at its number: its attempts are its own, and it has no winner while one is live, which was queued
 --     IsVertex n v x       a vertex at its number, with n tasks at most, and none before it is configured
 --     AreVertices g vs     those of a plan, each with its planned tasks at most
 --     IsFit m              the parts fit the plan and the configuration
 --     IsKept m q           they do, and the queue is that of the vertices
-use Rattle.std.specs.Prelude.{◌≡◌, ℕ, ◌≤◌, Bool, false, List, map, length, slice_get, Some, None, is_some}
+use Rattle.std.specs.Prelude.{◌≡◌, ℕ, ◌<◌, ◌≤◌, Bool, false, List, map, length, slice_get, Some, None, is_some}
 use Rattle.tez_ids.specs.declared.TaskId.{TaskId}
 use Rattle.tez_ids.specs.declared.AttemptId.{AttemptId}
 use Rattle.tez_ids.specs.Same.{task}
@@ -37,6 +37,7 @@ pub record IsTask (t : TaskId) (s : TaskState) : Type 0 where
   pub live_is : (l : Live) → s.live ≡ Some l → l.attempt.task ≡ t
   pub winner_is : (w : AttemptId) → s.winner ≡ Some w → w.task ≡ t
   pub one : (l : Live) → s.live ≡ Some l → s.winner ≡ None
+  pub begun : (l : Live) → s.live ≡ Some l → 0 < s.queued
 
 pub record IsVertex (n v : ℕ) (x : Vertex) : Type 0 where
   pub number : x.vertex ≡ vertex v

@@ -18,8 +18,8 @@ use tez_ids::{AttemptId, EdgeId, TaskId, VertexId};
 use tez_queue::TaskQueue;
 use tez_router::Admission;
 
-// The queue at a task that may have changed.
-fn refresh(core: &Core, queue: &mut TaskQueue, t: TaskId)
+/// The queue at a task that may have changed.
+pub(crate) fn refresh(core: &Core, queue: &mut TaskQueue, t: TaskId)
     ensures { queue.new ≡ with_task queue.old t (is_some (queued_at core.now.vertices t)) }
 {
     if core.queued_of(t).is_some() {

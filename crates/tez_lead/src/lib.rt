@@ -8,5 +8,6 @@ mod enabled;
 mod fresh;
 mod losing;
 mod parts;
+mod recovering;
 
 pub use parts::Lead;

@@ -11,3 +11,4 @@ mod single;
 
 pub use handled::{Effects, Handled};
 pub use master::Master;
+pub use tez_core::Kept;

@@ -1,8 +1,9 @@
 //! The master, and its answers.
-ghost use Rattle.std.specs.Prelude.{◌≡◌, ◌⊎◌, ◌∷◌, [], not, true, false, if◌then◌else◌, map, Some, None, IsOk, IfOk, OnOk, OnErr};
+ghost use Rattle.std.specs.Prelude.{◌≡◌, ◌⊎◌, ◌∷◌, [], not, true, false, if◌then◌else◌, map, Some, None, IsOk, IfOk, IfErr, OnOk, OnErr};
 ghost use Rattle.tez_events.specs.declared.CoreEvent.{CoreEvent};
 ghost use Rattle.tez_history.specs.Steps.{done_entries};
 ghost use Rattle.tez_pool.specs.Victim.{AreIn};
+ghost use Rattle.tez_recovery.specs.Recovery.{found, CanBeFound};
 ghost use Rattle.tez_core.specs.Fresh.{fresh};
 ghost use Rattle.tez_control.specs.Read.{processes};
 ghost use Rattle.tez_control.specs.Enabled.{enabled_in, why_in, why_not};
@@ -20,12 +21,14 @@ use std::alloc::{AllocError, Global};
 use std::marker::Model;
 use tez_conf::Conf;
 use tez_control::Why;
+use tez_core::Kept;
 use tez_entries::records;
 use tez_events::CoreEvent;
 use tez_ids::{AttemptId, EdgeId, Epoch};
 use tez_lead::Lead;
 use tez_plan::Plan;
 use tez_pool::Pool;
+use tez_standing::Standing;
 
 /// The master of a plan. Contracts see its state, and what an answer that is not settled yet is
 /// about.
@@ -48,24 +51,43 @@ impl Model for Master {
 }
 
 impl Master {
-    /// The first master of a plan: nothing is configured, queued or won.
+    /// The master of a plan with these places, in an epoch above that of those before it. It goes on
+    /// from what the journal tells of those, and from the winners that it keeps: these are winners of
+    /// the standing, each task once. Where the journal tells of a finished job, it is finished, and
+    /// nothing is kept. The places are handed back where there is no memory. Takes time in the tasks,
+    /// and for each winner in the vertices and edges.
     pub fn fresh(
         alloc: Global,
         plan: Plan,
         conf: Conf,
         epoch: Epoch,
+        s: &Standing,
+        kept: &[Kept],
         pool: Pool,
-    ) -> Result<Master, AllocError>
+    ) -> Result<Master, Pool>
         // `Pool::is_within` is the test of this.
         requires within { AreIn plan pool.places }
         requires places { pool.per_node ≡ conf.per_node }
-        ensures { IfOk result (λ m. m ≡ record { state = fresh plan conf epoch.0 pool; pending = None }) }
+        requires found { CanBeFound (fresh plan conf epoch.0 pool) s.now kept.now }
+        ensures state { IfOk result (λ m. m.state ≡ found (fresh plan conf epoch.0 pool) s.now kept.now) }
+        ensures pending { IfOk result (λ m. m.pending ≡ None) }
+        ensures handed_back { IfErr result (λ back. back ≡ pool) }
     {
-        let lead = Lead::new(alloc, plan, conf, epoch, pool)?;
+        let lead = match Lead::fresh(alloc, plan, conf, epoch, s, kept, pool) {
+            Ok(lead) => lead,
+            Err(pool) => return Err(pool),
+        };
         Ok(Master {
             lead,
             pending: None,
         })
+    }
+
+    /// The places alone. An answer that was not settled is dropped.
+    pub fn into_pool(self) -> Pool
+        ensures { result ≡ self.state.pool }
+    {
+        self.lead.into_pool()
     }
 
     /// Answers an event, with all the memory that settling the answer needs. An answer before that

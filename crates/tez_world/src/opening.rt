@@ -5,6 +5,8 @@ ghost use Rattle.tez_ports.specs.Causes.{Rose};
 ghost use Rattle.tez_ports.specs.Content.{Told, bytes_of};
 ghost use Rattle.tez_events.specs.declared.Entry.TheVariants.{Opened};
 ghost use Rattle.tez_history.specs.Shape.{has_sink};
+ghost use Rattle.tez_pool.specs.Victim.{AreIn};
+ghost use Rattle.tez_core.specs.Fresh.{fresh};
 ghost use Rattle.tez_world.specs.World.{first_published};
 ghost use Rattle.tez_world.specs.Begun.{HasRows, HasBegun, WasAsked, HasFault, IsNotFault};
 ghost use Rattle.tez_world.specs.Holds.{parts_of, Holds};
@@ -21,10 +23,11 @@ use tez_ids::{Bytes, Epoch, VertexId};
 use tez_log::Log;
 use tez_master::Master;
 use tez_meaning::Job;
-use tez_plan::VertexSpec;
+use tez_plan::{Plan, VertexSpec};
 use tez_pool::Pool;
 use tez_ports::{DeviceStop, OutputStore};
 use tez_shelves::Shelves;
+use tez_standing::{Failures, Phase, Settings, Standing, Winners};
 
 /// How a master began: it is up, or the world ended at once.
 #[derive(Drop)]
@@ -90,12 +93,31 @@ fn new_running(alloc: Global, job: &Job, conf: &Conf) -> Result<Running, AllocEr
     let places = values.nodes as u32 * values.per_node as u32;
     let texts = vec![in alloc; (0, 0); job.plan().vertices().len()]?;
     Ok(Running {
-        master: Master::fresh(alloc, plan, *conf, Epoch(1), pool)?,
+        master: first_master(alloc, plan, *conf, pool)?,
         desks: Desks::new(alloc, places)?,
         shelves: Shelves::new(alloc),
         texts,
         sums: Vec::new(alloc),
     })
+}
+
+/// The first master, which finds nothing.
+fn first_master(alloc: Global, plan: Plan, conf: Conf, pool: Pool) -> Result<Master, AllocError>
+    requires within { AreIn plan pool.places }
+    requires places { pool.per_node ≡ conf.per_node }
+    ensures { IfOk result (λ m. m.state ≡ fresh plan conf 1 pool) }
+{
+    let nothing = Standing {
+        epoch: 0,
+        configured: Settings::new(Vec::new(alloc)),
+        winners: Winners::new(Vec::new(alloc)),
+        failures: Failures::new(Vec::new(alloc)),
+        phase: Phase::Running,
+    };
+    match Master::fresh(alloc, plan, conf, Epoch(1), &nothing, &[], pool) {
+        Ok(master) => Ok(master),
+        Err(_) => Err(AllocError),
+    }
 }
 
 /// The first vertex whose sink was published before.

@@ -1,5 +1,14 @@
+use Rattle.std.proofs.Common.{sym, subst}
+use Rattle.tez_control.specs.State.{MasterState}
+use Rattle.tez_vertex_view.specs.View.{AreRestorable}
+use Rattle.tez_vertex_view.proofs.Fresh.{new_fresh}
 use Rattle.tez_lead.proofs.Beginning.{new_kept}
 use Rattle.tez_lead.proofs.parts.Lead.new.Goals as goal
 
 pub invariant_of-result : goal.invariant_of-result
-invariant_of-result c = new_kept c.args.plan c.args.conf c.args.epoch.0 c.args.pool c.in_ok-core.core c.in_ok-queue.queue c.requires.within c.requires.places c.in_ok-core.ensures c.in_ok-queue.ensures
+invariant_of-result c =
+    new_kept c.args.plan c.args.conf c.args.epoch.0 c.args.pool c.in-Ok-new.core c.in-Ok.queue c.requires.within c.requires.places c.in-Ok-new.ensures.fresh c.in-Ok.ensures
+
+pub returns-clause-limits : goal.returns-clause-limits
+returns-clause-limits c =
+    subst (λ (m : MasterState). AreRestorable m.conf m.vertices) (sym c.in-Ok-new.ensures.fresh) (new_fresh c.args.plan c.args.conf c.args.epoch.0)
