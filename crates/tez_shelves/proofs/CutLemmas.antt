@@ -15,7 +15,7 @@ use Rattle.tez_record.specs.Bag.{text}
 use Rattle.tez_record.specs.Block.{IsText}
 use Rattle.tez_record.proofs.LineLemmas.{lines-text}
 use Rattle.tez_record.proofs.BlockLemmas.{lines_are_records}
-use Rattle.tez_shelves.specs.declared.pieces.Mark.{Mark}
+use Rattle.tez_shelves.specs.declared.marks.Mark.{Mark}
 use Rattle.tez_shelves.specs.Piece.{size, is_on, bytes_on}
 use Rattle.tez_shelves.specs.Cut.{cut_from, AreCuts}
 

@@ -1,5 +1,6 @@
 pub mod CutLemmas
 pub mod IndexLemmas
+pub mod OrderLemmas
 pub mod Rows
 pub mod ShelfLemmas
 pub mod SlotLemmas

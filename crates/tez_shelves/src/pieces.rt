@@ -4,18 +4,11 @@ ghost use Rattle.tez_record.specs.Line.{lines};
 ghost use Rattle.tez_record.specs.Bag.{text};
 ghost use Rattle.tez_shelves.specs.Piece.{piece_at, bytes_on, size};
 
+use crate::marks::{Mark, find, stays_in_order};
 use std::alloc::{AllocError, Global};
 use std::marker::Model;
 use tez_ids::EdgeId;
 use tez_record::{Iter, Records, lines};
-
-/// A piece's edge and output number, and where its text ends in the block.
-#[derive(Clone, Copy)]
-struct Mark {
-    edge: EdgeId,
-    output: u32,
-    end: usize,
-}
 
 /// The pieces that an attempt made, which contracts see as the list of their edges, output numbers
 /// and records. They are held as one block of bytes, the texts of the pieces one after another, and
@@ -24,18 +17,20 @@ struct Mark {
 pub struct Pieces {
     block: Vec<u8>,
     table: Vec<Mark>,
+    // Whether each piece came after those before it, by edge and then by output.
+    in_order: bool,
 }
 
 impl Model for Pieces {
     ghost use Rattle.std.specs.Prelude.{List, ℕ};
     ghost use Rattle.tez_ids.specs.declared.EdgeId.{EdgeId};
-    ghost use Rattle.tez_shelves.specs.Cut.{cut_from, AreCuts};
+    ghost use Rattle.tez_shelves.specs.Cut.{cut_from, IsCut};
 
     ghost Value = { List (EdgeId × ℕ × List (List ℕ)) };
 
     ghost view = { λ p. cut_from 0 p.block.items p.table.items };
 
-    ghost invariant = { λ p. AreCuts 0 p.block.items p.table.items };
+    ghost invariant = { λ p. IsCut p.block.items p.table.items p.in_order };
 }
 
 impl Pieces {
@@ -46,6 +41,7 @@ impl Pieces {
         Pieces {
             block: Vec::new(alloc),
             table: Vec::new(alloc),
+            in_order: true,
         }
     }
 
@@ -57,11 +53,14 @@ impl Pieces {
         self.block.try_reserve(text.len())?;
         self.table.try_reserve(1)?;
         self.block.extend_from_slice(text)?;
-        self.table.push(Mark {
+        let mark = Mark {
             edge,
             output,
             end: self.block.len(),
-        })?;
+        };
+        let in_order = stays_in_order(self.in_order, &self.table, mark);
+        self.table.push(mark)?;
+        self.in_order = in_order;
         Ok(())
     }
 
@@ -72,6 +71,7 @@ impl Pieces {
         Ok(Pieces {
             block: Vec::from_slice(alloc, self.block.as_slice())?,
             table: Vec::from_slice(alloc, self.table.as_slice())?,
+            in_order: self.in_order,
         })
     }
 
@@ -84,10 +84,16 @@ impl Pieces {
     }
 
     /// The first piece of an output on an edge, and none exactly where there is none. It copies
-    /// nothing. Linear in the number of pieces.
+    /// nothing. Logarithmic in the number of pieces where it is there and all were pushed in order, by
+    /// edge and then by output, as those of a report are; else linear.
     pub fn piece(&self, edge: EdgeId, output: u32) -> Option<Piece<'_>>
         ensures { result ≡ piece_at edge output self.now }
     {
+        if self.in_order {
+            if let Some(text) = find(self.block.as_slice(), &self.table, edge, output) {
+                return Some(Piece { text });
+            }
+        }
         let mut start = 0;
         for mark in &self.table {
             if mark.edge == edge && mark.output == output {

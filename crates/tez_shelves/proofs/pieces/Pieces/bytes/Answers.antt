@@ -6,7 +6,7 @@ use Rattle.tez_shelves.proofs.pieces.Pieces.bytes.Goals as goal
 pub loop-mark-init : goal.loop-mark-init
 loop-mark-init c = record {
   block = c.self.inside.block.items;
-  cuts = subst (AreCuts 0 c.self.inside.block.items) (sym c.deref-mark-items.ensures.value) c.self.invariant;
+  cuts = subst (AreCuts 0 c.self.inside.block.items) (sym c.deref-mark-items.ensures.value) c.self.invariant.cuts;
   few = omega arith;
   same = ap (λ ms. counted None c.args.edge (cut_from 0 c.self.inside.block.items ms)) c.deref-mark-items.ensures.value ∙ ap (counted None c.args.edge) c.self.view_is ∙ counted_all c.args.edge c.args.self.now;
 }
