@@ -21,5 +21,3 @@ pub use status::{Device, Status, exit_code};
 pub use tool::am_tool;
 pub use top::am_run;
 
-#[cfg(test)]
-mod tests;

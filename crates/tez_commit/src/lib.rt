@@ -11,8 +11,6 @@ ghost use Rattle.tez_commit.specs.Merge.{merged, prepares};
 
 mod publish;
 mod sink;
-#[cfg(test)]
-mod tests;
 
 pub use publish::publish_next;
 pub use sink::{Prepared, prepare};

@@ -2,8 +2,6 @@
 #![tactic(auto)]
 
 mod conf;
-#[cfg(test)]
-mod tests;
 mod values;
 
 pub use conf::{Conf, defaults};

@@ -20,8 +20,6 @@ mod shallower;
 mod sinks;
 mod tasks;
 mod telling;
-#[cfg(test)]
-mod tests;
 
 pub use kept_winner::Kept;
 pub use parts::Core;

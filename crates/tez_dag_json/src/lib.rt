@@ -12,8 +12,6 @@ mod named;
 mod path;
 mod read;
 mod step;
-#[cfg(test)]
-mod tests;
 mod vertex;
 mod words;
 mod write;

@@ -9,8 +9,6 @@ mod broadcast;
 mod manager;
 mod one_to_one;
 mod scatter_gather;
-#[cfg(test)]
-mod tests;
 
 pub use any::Manager;
 pub use broadcast::Broadcast;

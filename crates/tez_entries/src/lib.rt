@@ -5,8 +5,6 @@
 mod events;
 mod journal;
 mod loss;
-#[cfg(test)]
-mod tests;
 mod withdrawal;
 
 pub use events::entries;

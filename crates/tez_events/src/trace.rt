@@ -57,23 +57,3 @@ impl Trace {
         self.entries.as_slice()
     }
 }
-
-#[cfg(test)]
-mod tests {
-    use super::Trace;
-    use crate::Entry;
-    use std::alloc::AllocError;
-    use tez_ids::{Epoch, VertexId};
-
-    #[test]
-    fn entries_in_order(rt: HostRuntime) -> Result<(), AllocError> {
-        let mut trace = Trace::new(rt.alloc());
-        assert!(rt; trace.entries().is_empty());
-        trace.reserve(2)?;
-        trace.push(Entry::Opened(Epoch(1)));
-        trace.push(Entry::Ready(VertexId(2)));
-        let rows = [Entry::Opened(Epoch(1)), Entry::Ready(VertexId(2))];
-        assert!(rt; trace.entries() == rows.as_slice());
-        Ok(())
-    }
-}

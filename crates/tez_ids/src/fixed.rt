@@ -30,28 +30,3 @@ pub fn read_fixed(bytes: &[u8; 22]) -> AttemptId
         number: u64_at(bytes, 14),
     }
 }
-
-#[cfg(test)]
-mod tests {
-    use super::{read_fixed, write_fixed};
-    use crate::{AttemptId, Epoch, TaskId, VertexId};
-
-    #[test]
-    fn attempt_and_bytes(rt: HostRuntime) {
-        let a = AttemptId {
-            epoch: Epoch(1),
-            task: TaskId {
-                vertex: VertexId(0),
-                index: 2,
-            },
-            number: 3,
-        };
-        let mut bytes = [9; 22];
-        write_fixed(a, &mut bytes);
-        let row = [
-            1, 0, 0, 0, 0, 0, 0, 0, 0, 0, 2, 0, 0, 0, 3, 0, 0, 0, 0, 0, 0, 0,
-        ];
-        assert_eq!(rt; bytes, row);
-        assert_eq!(rt; read_fixed(&row), a);
-    }
-}

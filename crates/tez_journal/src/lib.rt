@@ -8,13 +8,9 @@ ghost use Rattle.tez_events.specs.Body.{body, FitsRecord};
 ghost use Rattle.tez_journal.specs.Text.{entries, framed, IsGated, IsText};
 ghost use Rattle.tez_ports.specs.Image.{IsTorn};
 
-#[cfg(test)]
-mod disk_tests;
 mod fault;
 mod journal;
 mod opening;
-#[cfg(test)]
-mod tests;
 mod text;
 
 pub use fault::JournalFault;

@@ -6,8 +6,6 @@ mod evaluate;
 mod fault;
 mod job;
 mod reads;
-#[cfg(test)]
-mod tests;
 
 ghost use Rattle.std.specs.Prelude.{◌≡◌, ◌<◌, ℕ, [], length};
 ghost use Rattle.tez_plan.specs.Faults.{IsValid};

@@ -13,8 +13,6 @@ mod members;
 mod program;
 mod sides;
 mod steps;
-#[cfg(test)]
-mod tests;
 mod totals;
 mod words;
 

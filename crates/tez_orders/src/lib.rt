@@ -21,8 +21,6 @@ mod fit;
 mod order;
 mod report;
 mod same;
-#[cfg(test)]
-mod tests;
 mod worker;
 
 pub use cut::Cut;

@@ -7,9 +7,6 @@ ghost use Rattle.tez_record.specs.Line.{IsRecord};
 ghost use Rattle.tez_record.specs.Bag.{sort};
 ghost use Rattle.tez_partition.specs.Partition.{hash, partition, in_partition, split};
 
-#[cfg(test)]
-mod tests;
-
 use std::alloc::{AllocError, Global};
 use tez_record::{Records, push_key};
 

@@ -12,8 +12,6 @@ mod program;
 mod reads;
 mod runs;
 mod steps;
-#[cfg(test)]
-mod tests;
 mod words;
 
 pub use fault::PlainFault;

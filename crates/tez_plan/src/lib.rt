@@ -16,8 +16,6 @@ mod order;
 mod parts;
 mod plan;
 mod ranges;
-#[cfg(test)]
-mod tests;
 
 pub use fault::PlanFault;
 pub use parts::{Columns, EdgeSpec, Head, Movement, Program, Step, Steps, Test, VertexSpec};

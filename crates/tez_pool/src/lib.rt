@@ -6,8 +6,6 @@ mod index;
 mod place;
 mod places;
 mod pool;
-#[cfg(test)]
-mod tests;
 mod victim;
 
 pub use place::{Held, Place};

@@ -39,7 +39,3 @@ pub use sure_files::SureFiles;
 pub use sure_out::SureOut;
 pub use sure_store::SureStore;
 
-#[cfg(test)]
-mod disk_tests;
-#[cfg(test)]
-mod tests;

@@ -55,32 +55,3 @@ impl Gate for PairGate {
         }
     }
 }
-
-#[cfg(test)]
-mod tests {
-    use super::PairGate;
-    use tez_ids::{AttemptId, Epoch, TaskId, VertexId};
-    use tez_ports::Gate;
-
-    fn attempt(index: u32) -> AttemptId {
-        AttemptId {
-            epoch: Epoch(1),
-            task: TaskId {
-                vertex: VertexId(0),
-                index,
-            },
-            number: 0,
-        }
-    }
-
-    #[test]
-    fn two_attempts_meet(rt: HostRuntime) {
-        let gate = PairGate::new(attempt(0), attempt(1));
-        gate.enter(attempt(2));
-        assert!(rt; gate.ran_out());
-        gate.enter(attempt(1));
-        assert!(rt; gate.ran_out());
-        gate.enter(attempt(0));
-        assert!(rt; !gate.ran_out());
-    }
-}

@@ -20,5 +20,3 @@ pub use gate::QuietGate;
 pub use out::StdOut;
 pub use store::FolderStore;
 
-#[cfg(test)]
-mod tests;

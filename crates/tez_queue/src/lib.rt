@@ -14,8 +14,6 @@ ghost use Rattle.tez_queue.specs.Queue.{Queue, first, IsQueueOf};
 mod order;
 mod queue;
 mod rows;
-#[cfg(test)]
-mod tests;
 
 pub use queue::TaskQueue;
 

@@ -7,8 +7,6 @@ mod find;
 mod owned;
 mod records;
 mod sort_key;
-#[cfg(test)]
-mod tests;
 
 ghost use Rattle.std.specs.Prelude.{◌≡◌, ℕ, List, IsSorted, count_by};
 ghost use Rattle.std.specs.List.{AllByRecursion};

@@ -15,8 +15,6 @@ mod order;
 mod planned;
 mod reroute;
 mod router;
-#[cfg(test)]
-mod tests;
 mod winners;
 
 pub use admission::Admission;

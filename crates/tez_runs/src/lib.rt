@@ -5,7 +5,5 @@
 
 mod edit;
 mod set;
-#[cfg(test)]
-mod tests;
 
 pub use set::Runs;

@@ -14,8 +14,6 @@ mod manager;
 mod planned;
 mod schedule;
 mod seeing;
-#[cfg(test)]
-mod tests;
 mod vertex;
 
 pub use manager::AnyManager;

@@ -3,8 +3,6 @@
 #![tactic(auto)]
 
 mod lines;
-#[cfg(test)]
-mod tests;
 
 ghost use Rattle.std.specs.Prelude.{◌≡◌, ◌<◌, ℕ, List, count_by, length, IsTrue, IsFalse};
 ghost use Rattle.std.specs.List.{flat_map, range_with_len};

@@ -6,8 +6,6 @@ mod marks;
 mod pieces;
 mod shelves;
 mod slots;
-#[cfg(test)]
-mod tests;
 
 pub use pieces::{Piece, Pieces, pieces_new};
 pub use shelves::Shelves;

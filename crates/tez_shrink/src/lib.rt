@@ -5,9 +5,6 @@
 //! none below a least fraction of finished source tasks and all from a greatest fraction on.
 #![tactic(auto)]
 
-#[cfg(test)]
-mod tests;
-
 ghost use Rattle.std.specs.Prelude.{◌≡◌, ◌*◌, ◌^◌, ◌<◌, ◌≤◌, ◌+◌, ℕ};
 ghost use Rattle.tez_shrink.specs.Formulas as formulas;
 

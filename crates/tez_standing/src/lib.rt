@@ -12,8 +12,6 @@ mod reading;
 mod rows;
 mod rules;
 mod state;
-#[cfg(test)]
-mod tests;
 
 pub use lists::{Failures, Settings, Winners};
 pub use reading::standing;

@@ -4,8 +4,6 @@
 //! node names the least number of the set below it, as the winner of a tournament.
 #![tactic(auto)]
 
-#[cfg(test)]
-mod tests;
 mod tree;
 
 pub use tree::Tournament;

@@ -4,8 +4,6 @@
 #![tactic(auto)]
 
 mod law;
-#[cfg(test)]
-mod tests;
 mod write;
 
 pub use law::text_has_one_trace;

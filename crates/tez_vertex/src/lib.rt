@@ -1,9 +1,6 @@
 //! The machine of a vertex: its tasks, and how far it has come by them.
 #![tactic(auto)]
 
-#[cfg(test)]
-mod tests;
-
 ghost use Rattle.std.specs.Prelude.{◌≡◌, ℕ, ◌+◌, ◌<◌, ◌^◌, cond, true, false, not, ◌||◌, Some, map, length, IfOk, OnErr, IfSome};
 ghost use Rattle.std.specs.Option.{option_map};
 ghost use Rattle.tez_lists.specs.Numbers.{numbers_from};

@@ -10,8 +10,6 @@ mod input_ready;
 mod manager;
 mod seen;
 mod shuffle;
-#[cfg(test)]
-mod tests;
 
 pub use immediate::Immediate;
 pub use input_ready::InputReady;

@@ -22,5 +22,3 @@ pub use job_run::{JobRun, Mode};
 pub use verdict::{Device, Took, Verdict};
 pub use world::World;
 
-#[cfg(test)]
-mod tests;
