@@ -14,10 +14,10 @@ use Rattle.tez_meaning.specs.Value.{sink_texts}
 use Rattle.tez_meaning.specs.Published.{published}
 use Rattle.tez_history.specs.History.{Past}
 use Rattle.tez_sinks.specs.Sinks.{sink_name, published_view, TasksWereStaged, HasNoSink}
-use Rattle.tez_keeping.specs.Store.{HasPublished, WasClear}
+use Rattle.tez_world_invariant.specs.Store.{HasPublished, WasClear}
 use Rattle.tez_world.specs.Lawful.{IsTrace}
 use Rattle.tez_world.specs.World.{Down, Over, Notes, RunParts, Stands, StoreAfter}
-use Rattle.tez_keeping.proofs.EndsBegin.{begun_store}
+use Rattle.tez_world_invariant.proofs.EndsBegin.{begun_store}
 use Rattle.tez_world.specs.declared.verdict.Device.TheVariants as device
 use Rattle.tez_world.specs.declared.verdict.Verdict.{Verdict}
 use Rattle.tez_world.specs.declared.verdict.Verdict.TheVariants.{Succeeded, SinkExists, AttemptsSpent, DeviceFault}

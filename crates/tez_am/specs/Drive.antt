@@ -15,7 +15,7 @@ use Rattle.tez_meaning.specs.Value.{bad, sums}
 use Rattle.tez_history.specs.Shape.{has_sink}
 use Rattle.tez_history.specs.History.{Past}
 use Rattle.tez_sinks.specs.Sinks.{sink_name}
-use Rattle.tez_keeping.specs.Store.{IsSuccess}
+use Rattle.tez_world_invariant.specs.Store.{IsSuccess}
 use Rattle.tez_world.specs.World.{Phase, Over, Notes, RunParts, Stands, StoreAfter}
 use Rattle.tez_world.specs.declared.event.Event.{Event}
 use Rattle.tez_world.specs.declared.event.Event.TheVariants.{Core}

@@ -20,4 +20,3 @@ mod words;
 pub use status::{Device, Status, exit_code};
 pub use tool::am_tool;
 pub use top::am_run;
-

@@ -1,6 +1,6 @@
 -- What single parts of a master tell.
 --     task_at vs t       the task, where its vertex has it
---     lie_at rows t      where the pieces of the task's winner lie
+--     location_at rows t      where the pieces of the task's winner lie
 --     are_shallower p bound x      an attempt of this vertex with a depth below the bound is queued
 use Rattle.std.specs.Prelude.{ℕ, Bool, nat_lt, List, [], Option, None, slice_get, unwrap_or, option_and_then}
 use Rattle.std.specs.List.{list_any, flat_map}
@@ -11,13 +11,13 @@ use Rattle.tez_plan.specs.Order.{depth}
 use Rattle.tez_task.specs.TaskState.{TaskState}
 use Rattle.tez_vertex.specs.Table.{task_of}
 use Rattle.tez_vertex.specs.Vertex.{Vertex}
-use Rattle.tez_control.specs.Read.{queued_of}
+use Rattle.tez_master_view.specs.Read.{queued_of}
 
 abbrev pub task_at : List Vertex → TaskId → Option TaskState
 task_at vs t = option_and_then (λ x. task_of x t.index) (slice_get vs t.vertex.0)
 
-abbrev pub lie_at : List (List (Option ℕ)) → TaskId → Option ℕ
-lie_at rows t = unwrap_or (slice_get (unwrap_or (slice_get rows t.vertex.0) []) t.index) None
+abbrev pub location_at : List (List (Option ℕ)) → TaskId → Option ℕ
+location_at rows t = unwrap_or (slice_get (unwrap_or (slice_get rows t.vertex.0) []) t.index) None
 
 -- the attempt has a depth below the bound
 abbrev pub is_shallower : Dag → ℕ → AttemptId → Bool

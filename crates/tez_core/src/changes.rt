@@ -6,11 +6,11 @@ ghost use Rattle.tez_task.specs.TaskState.{HasRoom};
 ghost use Rattle.tez_task.specs.declared.TaskEvent.{TaskEvent};
 ghost use Rattle.tez_pool.specs.Table.{place_held};
 ghost use Rattle.tez_schedule.specs.Table.{is_task};
-ghost use Rattle.tez_control.specs.Read.{task_in, source_in};
-ghost use Rattle.tez_control.specs.Settled.{settled, killed, without_node, withdrawn, unreadied, with_lie, released, after_fetch, after_done, slot_in};
+ghost use Rattle.tez_master_view.specs.Read.{task_in, source_in};
+ghost use Rattle.tez_master_view.specs.Settled.{settled, killed, without_node, withdrawn, unreadied, with_location, released, after_fetch, after_done, slot_in};
 
 use crate::flags::{clear_all, set_flag};
-use crate::lies::{drop_slot, set_lie};
+use crate::locations::{drop_slot, set_location};
 use crate::parts::Core;
 use crate::tasks::take;
 use std::alloc::{AllocError, Global};
@@ -82,7 +82,7 @@ impl Core {
         ensures { self.new ≡ without_node self.old slot }
     {
         self.pool.lose_node(slot);
-        drop_slot(&mut self.lies, slot);
+        drop_slot(&mut self.locations, slot);
     }
 
     /// A winner is withdrawn: its task gets another attempt, and no sink counts as put aside.
@@ -93,7 +93,7 @@ impl Core {
         take(&mut self.vertices, w.task, TaskEvent::Lose(w));
         self.router.withdraw(w.task);
         self.schedule.withdraw(w.task);
-        set_lie(&mut self.lies, w.task, None);
+        set_location(&mut self.locations, w.task, None);
         clear_all(&mut self.readied);
     }
 
@@ -147,7 +147,7 @@ impl Core {
         self.pool.release(a);
         self.router.announce(a);
         self.schedule.win(a.task, made);
-        set_lie(&mut self.lies, a.task, slot);
+        set_location(&mut self.locations, a.task, slot);
     }
 
     // The node slot of the place of an attempt.
@@ -164,7 +164,7 @@ impl Core {
     pub fn lose_output(&mut self, t: TaskId)
         ensures { self.new ≡ settled self.old (CoreEvent.LoseOutput t) }
     {
-        set_lie(&mut self.lies, t, None);
+        set_location(&mut self.locations, t, None);
     }
 
     /// The text of a sink is put aside.

@@ -8,8 +8,8 @@ ghost use Rattle.tez_vertex.specs.Table.{task_of};
 ghost use Rattle.tez_pool.specs.Index.{held_at};
 ghost use Rattle.tez_pool.specs.Victim.{AreIn, IsGreatest, candidates};
 ghost use Rattle.tez_schedule.specs.Table.{next_configure};
-ghost use Rattle.tez_control.specs.Read.{is_on_slot};
-ghost use Rattle.tez_control.specs.Choice.{first_without, ready_choice, commit_choice, publish_choice, finish_choice};
+ghost use Rattle.tez_master_view.specs.Read.{is_on_slot};
+ghost use Rattle.tez_master_view.specs.Choice.{first_without, ready_choice, commit_choice, publish_choice, finish_choice};
 ghost use Rattle.tez_core.specs.Choosing.{queued_one, queued_at, count_at, work_choice, end_choice, lost_at};
 
 use crate::parts::Core;
@@ -139,8 +139,8 @@ impl Core {
     fn is_on_slot(&self, slot: u16, w: AttemptId) -> bool
         ensures { result ≡ is_on_slot self.now slot w }
     {
-        match self.lie_of(w.task) {
-            Some(lie) => lie == slot && has_edge_out(&self.plan, w.task.vertex),
+        match self.location_of(w.task) {
+            Some(location) => location == slot && has_edge_out(&self.plan, w.task.vertex),
             None => false,
         }
     }

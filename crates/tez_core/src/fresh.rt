@@ -5,9 +5,9 @@ ghost use Rattle.tez_vertex.specs.Table.{new_vertex};
 ghost use Rattle.tez_vertex_view.specs.View.{new_vertices};
 ghost use Rattle.tez_router.specs.Planned.{planned_router};
 ghost use Rattle.tez_schedule.specs.Planned.{planned_schedule};
-ghost use Rattle.tez_core.specs.Fresh.{fresh, no_lies};
+ghost use Rattle.tez_core.specs.Fresh.{fresh, no_locations};
 
-use crate::lies::Lies;
+use crate::locations::Locations;
 use crate::parts::Core;
 use std::alloc::{AllocError, Global};
 use tez_conf::Conf;
@@ -24,7 +24,7 @@ struct NewParts {
     vertices: Vec<VertexMachine>,
     router: Router,
     schedule: Schedule,
-    lies: Vec<Lies>,
+    locations: Vec<Locations>,
     readied: Vec<bool>,
     published: Vec<bool>,
 }
@@ -50,7 +50,7 @@ impl Core {
             vertices,
             router,
             schedule,
-            lies,
+            locations,
             readied,
             published,
         } = parts;
@@ -62,7 +62,7 @@ impl Core {
             pool,
             router,
             schedule,
-            lies,
+            locations,
             readied,
             published,
             committing: false,
@@ -83,7 +83,7 @@ fn new_parts(alloc: Global, plan: &Plan, conf: &Conf, epoch: Epoch) -> Result<Ne
     ensures vertices { IfOk result (λ x. x.vertices.items ≡ new_vertices plan.now conf.now epoch.0) }
     ensures router { IfOk result (λ x. x.router ≡ planned_router plan.now) }
     ensures schedule { IfOk result (λ x. x.schedule ≡ planned_schedule plan.now conf.now) }
-    ensures lies { IfOk result (λ x. x.lies.items ≡ map no_lies plan.now.vertices) }
+    ensures locations { IfOk result (λ x. x.locations.items ≡ map no_locations plan.now.vertices) }
     ensures readied { IfOk result (λ x. x.readied.items ≡ replicate (length plan.now.vertices) false) }
     ensures published { IfOk result (λ x. x.published.items ≡ replicate (length plan.now.vertices) false) }
 {
@@ -92,7 +92,7 @@ fn new_parts(alloc: Global, plan: &Plan, conf: &Conf, epoch: Epoch) -> Result<Ne
         vertices: new_vertices(alloc, plan, conf, epoch)?,
         router: Router::new(alloc, plan)?,
         schedule: Schedule::new(alloc, plan, conf)?,
-        lies: no_lies(alloc, plan.vertices())?,
+        locations: no_locations(alloc, plan.vertices())?,
         readied: vec![in alloc; false; count]?,
         published: vec![in alloc; false; count]?,
     })
@@ -121,12 +121,12 @@ fn new_vertex(alloc: Global, v: u16, epoch: Epoch, max_failed: u32) -> VertexMac
     VertexMachine::new(alloc, VertexId(v), epoch, max_failed)
 }
 
-fn no_lies(alloc: Global, vertices: &[VertexSpec]) -> Result<Vec<Lies>, AllocError>
-    ensures { IfOk result (λ rows. rows.items ≡ map no_lies vertices.now) }
+fn no_locations(alloc: Global, vertices: &[VertexSpec]) -> Result<Vec<Locations>, AllocError>
+    ensures { IfOk result (λ rows. rows.items ≡ map no_locations vertices.now) }
 {
     let mut rows = Vec::with_capacity(alloc, vertices.len())?;
     for spec in vertices {
-        rows.push(Lies::new(alloc, spec.tasks)?)?;
+        rows.push(Locations::new(alloc, spec.tasks)?)?;
     }
     Ok(rows)
 }

@@ -9,7 +9,7 @@ mod enabled;
 mod flags;
 mod fresh;
 mod kept_winner;
-mod lies;
+mod locations;
 mod lost;
 mod new_tasks;
 mod parts;

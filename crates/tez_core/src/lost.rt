@@ -3,7 +3,7 @@ ghost use Rattle.std.specs.Prelude.{◌≡◌, ◌++◌, IfOk, OnOk};
 ghost use Rattle.std.specs.List.{flat_map};
 ghost use Rattle.tez_core.specs.Lost.{is_lost_with, lost_of, lost_at};
 
-use crate::lies::{Lies, lie_at};
+use crate::locations::{Locations, location_at};
 use crate::sinks::has_edge_out;
 use std::alloc::{AllocError, Global};
 use tez_ids::AttemptId;
@@ -15,15 +15,15 @@ use tez_vertex::VertexMachine;
 pub(crate) fn lost_with(
     alloc: Global,
     p: &Plan,
-    lies: &[Lies],
+    locations: &[Locations],
     vertices: &[VertexMachine],
     slot: u16,
 ) -> Result<Vec<AttemptId>, AllocError>
-    ensures { IfOk result (λ found. found.items ≡ flat_map (lost_at p.now lies.now slot) vertices.now) }
+    ensures { IfOk result (λ found. found.items ≡ flat_map (lost_at p.now locations.now slot) vertices.now) }
 {
     let mut found = Vec::new(alloc);
     for x in vertices {
-        add_lost_at(&mut found, p, lies, x, slot)?;
+        add_lost_at(&mut found, p, locations, x, slot)?;
     }
     Ok(found)
 }
@@ -31,14 +31,14 @@ pub(crate) fn lost_with(
 fn add_lost_at(
     found: &mut Vec<AttemptId>,
     p: &Plan,
-    lies: &[Lies],
+    locations: &[Locations],
     x: &VertexMachine,
     slot: u16,
 ) -> Result<(), AllocError>
-    ensures { OnOk result (found.new.items ≡ found.old.items ++ lost_at p.now lies.now slot x.now) }
+    ensures { OnOk result (found.new.items ≡ found.old.items ++ lost_at p.now locations.now slot x.now) }
 {
     for index in 0..x.tasks() {
-        add_lost(found, p, lies, x.winner(index), slot)?;
+        add_lost(found, p, locations, x.winner(index), slot)?;
     }
     Ok(())
 }
@@ -46,14 +46,14 @@ fn add_lost_at(
 fn add_lost(
     found: &mut Vec<AttemptId>,
     p: &Plan,
-    lies: &[Lies],
+    locations: &[Locations],
     winner: Option<AttemptId>,
     slot: u16,
 ) -> Result<(), AllocError>
-    ensures { OnOk result (found.new.items ≡ found.old.items ++ lost_of p.now lies.now slot winner) }
+    ensures { OnOk result (found.new.items ≡ found.old.items ++ lost_of p.now locations.now slot winner) }
 {
     if let Some(w) = winner {
-        if is_lost_with(p, lies, w, slot) {
+        if is_lost_with(p, locations, w, slot) {
             found.push(w)?;
         }
     }
@@ -61,8 +61,8 @@ fn add_lost(
 }
 
 // The edges are gone over only where the pieces lie there.
-fn is_lost_with(p: &Plan, lies: &[Lies], w: AttemptId, slot: u16) -> bool
-    ensures { result ≡ is_lost_with p.now lies.now slot w }
+fn is_lost_with(p: &Plan, locations: &[Locations], w: AttemptId, slot: u16) -> bool
+    ensures { result ≡ is_lost_with p.now locations.now slot w }
 {
-    lie_at(lies, w.task) == Some(slot) && has_edge_out(p, w.task.vertex)
+    location_at(locations, w.task) == Some(slot) && has_edge_out(p, w.task.vertex)
 }

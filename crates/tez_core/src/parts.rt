@@ -1,5 +1,5 @@
 //! The parts.
-use crate::lies::Lies;
+use crate::locations::Locations;
 use std::marker::Model;
 use tez_conf::Conf;
 use tez_ids::Epoch;
@@ -19,7 +19,7 @@ pub struct Core {
     pub(crate) pool: Pool,
     pub(crate) router: Router,
     pub(crate) schedule: Schedule,
-    pub(crate) lies: Vec<Lies>,
+    pub(crate) locations: Vec<Locations>,
     pub(crate) readied: Vec<bool>,
     pub(crate) published: Vec<bool>,
     pub(crate) committing: bool,
@@ -28,9 +28,9 @@ pub struct Core {
 }
 
 impl Model for Core {
-    ghost use Rattle.tez_control.specs.State.{MasterState};
+    ghost use Rattle.tez_master_view.specs.State.{MasterState};
 
     ghost Value = { MasterState };
 
-    ghost view = { λ m. record { plan = m.plan; conf = m.conf; epoch = m.epoch.0; vertices = m.vertices.items; pool = m.pool; router = m.router; schedule = m.schedule; lies = m.lies.items; readied = m.readied.items; published = m.published.items; committing = m.committing; finished = m.finished; up = m.up } };
+    ghost view = { λ m. record { plan = m.plan; conf = m.conf; epoch = m.epoch.0; vertices = m.vertices.items; pool = m.pool; router = m.router; schedule = m.schedule; locations = m.locations.items; readied = m.readied.items; published = m.published.items; committing = m.committing; finished = m.finished; up = m.up } };
 }

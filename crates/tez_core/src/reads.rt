@@ -4,16 +4,16 @@ ghost use Rattle.std.specs.Option.{option_map};
 ghost use Rattle.tez_task.specs.TaskState.{HasRoom};
 ghost use Rattle.tez_pool.specs.Table.{place_held};
 ghost use Rattle.tez_schedule.specs.Table.{config_at, progress_at, is_task};
-ghost use Rattle.tez_control.specs.Enabled.{why_in};
-ghost use Rattle.tez_control.specs.Read.{task_in, state_in, winner_in, next_in, is_in_queue, is_at_place, is_at_work, is_queued, waits, processes, free_place, is_free_place, lie_in, is_on_shelf, source_in, are_done, first_sink, all_sinks, is_running};
+ghost use Rattle.tez_master_view.specs.Enabled.{why_in};
+ghost use Rattle.tez_master_view.specs.Read.{task_in, state_in, winner_in, next_in, is_in_queue, is_at_place, is_at_work, is_queued, waits, processes, free_place, is_free_place, location_in, is_on_shelf, source_in, are_done, first_sink, all_sinks, is_running};
 
-use crate::lies::lie_at;
+use crate::locations::location_at;
 use crate::parts::Core;
 use crate::sinks::{are_all_done, has_edge_out, is_first_open, target_of};
 use crate::tasks::{has_room, next_of, state_of, why_of, winner_of};
 use tez_attempt::AttemptState;
-use tez_control::Why;
 use tez_ids::{AttemptId, EdgeId, NodeId, TaskId, VertexId};
+use tez_master_view::Why;
 use tez_vman::Config;
 
 pub(crate) fn is_in_queue(state: Option<AttemptState>) -> bool
@@ -92,17 +92,17 @@ impl Core {
     }
 
     /// The node slot where the pieces of a task's winner lie, if they lie anywhere.
-    pub fn lie_of(&self, t: TaskId) -> Option<u16>
-        ensures { result ≡ lie_in self.now t }
+    pub fn location_of(&self, t: TaskId) -> Option<u16>
+        ensures { result ≡ location_in self.now t }
     {
-        lie_at(&self.lies, t)
+        location_at(&self.locations, t)
     }
 
     /// Whether the pieces of this winner are on the shelf. Takes time in the edges.
     pub fn is_on_shelf(&self, w: AttemptId) -> bool
         ensures { result ≡ is_on_shelf self.now w }
     {
-        has_edge_out(&self.plan, w.task.vertex) && self.lie_of(w.task).is_some()
+        has_edge_out(&self.plan, w.task.vertex) && self.location_of(w.task).is_some()
     }
 
     /// The winner behind an input of an attempt, over an edge that leads to its vertex.

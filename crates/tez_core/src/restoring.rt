@@ -4,13 +4,13 @@ ghost use Rattle.tez_vertex.specs.Table.{IsFresh, task_of, after_restore};
 ghost use Rattle.tez_router.specs.Configure.{CanConfigure};
 ghost use Rattle.tez_schedule.specs.Table.{can_configure};
 ghost use Rattle.tez_vertex_view.specs.View.{carry_one, failures_in, keep_one};
-ghost use Rattle.tez_control.specs.Read.{task_in};
-ghost use Rattle.tez_control.specs.Settled.{with_config};
+ghost use Rattle.tez_master_view.specs.Read.{task_in};
+ghost use Rattle.tez_master_view.specs.Settled.{with_config};
 ghost use Rattle.tez_core.specs.Parts.{task_at};
 ghost use Rattle.tez_recovery.specs.Recovery.{carried, kept, IsNew, CanBeKept};
 
 use crate::kept_winner::Kept;
-use crate::lies::set_lie;
+use crate::locations::set_location;
 use crate::new_tasks::{new_tasks, set_tasks};
 use crate::parts::Core;
 use std::alloc::{AllocError, Global};
@@ -54,7 +54,7 @@ impl Core {
         self.router.announce(a);
         self.schedule.schedule(a.task);
         self.schedule.win(a.task, k.made());
-        set_lie(&mut self.lies, a.task, k.slot());
+        set_location(&mut self.locations, a.task, k.slot());
     }
 }
 

@@ -5,8 +5,8 @@ ghost use Rattle.tez_task.specs.Table.{is_last};
 ghost use Rattle.tez_pool.specs.Table.{held_on};
 ghost use Rattle.tez_router.specs.Table.{notices_in, without};
 ghost use Rattle.tez_schedule.specs.Table.{configures_at};
-ghost use Rattle.tez_control.specs.Read.{lost_in};
-ghost use Rattle.tez_control.specs.Entries.{container_in, is_last_in, next_life};
+ghost use Rattle.tez_master_view.specs.Read.{lost_in};
+ghost use Rattle.tez_master_view.specs.Entries.{container_in, is_last_in, next_life};
 ghost use Rattle.tez_core.specs.Parts.{task_at};
 
 use crate::lost::lost_with;
@@ -121,7 +121,7 @@ impl Core {
     pub fn lost_on(&self, alloc: Global, slot: u16) -> Result<Vec<AttemptId>, AllocError>
         ensures { IfOk result (λ found. found.items ≡ lost_in self.now slot) }
     {
-        lost_with(alloc, &self.plan, &self.lies, &self.vertices, slot)
+        lost_with(alloc, &self.plan, &self.locations, &self.vertices, slot)
     }
 }
 

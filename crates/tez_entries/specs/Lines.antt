@@ -6,8 +6,8 @@ use Rattle.tez_events.specs.declared.Entry.{Entry}
 use Rattle.tez_events.specs.declared.Entry.TheVariants.{Rerun}
 use Rattle.tez_router.specs.declared.notice.Notice.{Notice}
 use Rattle.tez_router_view.specs.Events.{notice_entry}
-use Rattle.tez_control.specs.State.{MasterState}
-use Rattle.tez_control.specs.Entries.{requeue_in}
+use Rattle.tez_master_view.specs.State.{MasterState}
+use Rattle.tez_master_view.specs.Entries.{requeue_in}
 
 abbrev pub withdrawal_by : MasterState → List Notice → AttemptId → List Entry
 withdrawal_by m notices w = Rerun w ∷ (map notice_entry notices ++ requeue_in m w.task)

@@ -18,7 +18,7 @@ use Rattle.tez_vman.specs.Rules.{configures as configures_by, schedules, config 
 use Rattle.tez_events.specs.declared.Entry.{Entry}
 use Rattle.tez_events.specs.declared.Entry.TheVariants.{Opened, Over, Stands, Carried, Kept, Configured, Queued, Placed, Fetched, ReadError, InputFailed, Ordered, Succeeded, Made, Failed, Killed, NodeLost, OutputLost, Rerun, Stopped, Ready, Published, CommitStarted, Finished, Purged}
 use Rattle.tez_history.specs.Shape.{Edge, numbers_below, vertices, edges_to, primary_edges, has_edge_out, rule, places}
-use Rattle.tez_history.specs.History.{Past, Stage, Unknown, InQueue, Waits, Runs, Ended, Lie, Nowhere, On, InQuestion, config, live, stage, winner, epoch, attempts, made_bytes, is_fetched, is_scheduled, holder, lie}
+use Rattle.tez_history.specs.History.{Past, Stage, Unknown, InQueue, Waits, Runs, Ended, Location, Nowhere, On, InQuestion, config, live, stage, winner, epoch, attempts, made_bytes, is_fetched, is_scheduled, holder, location}
 
 -- the tasks and base of a vertex: those configured, and before that those of the plan
 abbrev pub shape_of : Dag → ℕ → Past → Config
@@ -218,19 +218,19 @@ is_free past p = is_none (holder p past)
 abbrev pub any_free : ConfValues → Past → Bool
 any_free c past = list_any (is_free past) (numbers_below (places c))
 
-abbrev pub lies_on : Lie → Bool
-lies_on (On slot) = true
-lies_on Nowhere = false
-lies_on (InQuestion slot) = false
+abbrev pub is_stored : Location → Bool
+is_stored (On slot) = true
+is_stored Nowhere = false
+is_stored (InQuestion slot) = false
 
-abbrev pub is_on_slot : ℕ → Lie → Bool
+abbrev pub is_on_slot : ℕ → Location → Bool
 is_on_slot slot (On s) = s == slot
 is_on_slot slot Nowhere = false
 is_on_slot slot (InQuestion s) = false
 
 -- whether the pieces of an attempt are on the shelf
 abbrev pub is_on_shelf : Dag → ConfValues → Past → AttemptId → Bool
-is_on_shelf g c past a = has_edge_out g a.task.vertex.0 && lies_on (lie c a past)
+is_on_shelf g c past a = has_edge_out g a.task.vertex.0 && is_stored (location c a past)
 
 -- the places of a node slot
 abbrev pub places_on : ConfValues → ℕ → List ℕ
@@ -238,7 +238,7 @@ places_on c slot = numbers_from (slot * c.per_node) c.per_node
 
 -- whether the pieces of an attempt are what a loss of the node takes from the consumers
 abbrev pub is_on_node : Dag → ConfValues → Past → ℕ → AttemptId → Bool
-is_on_node g c past slot a = has_edge_out g a.task.vertex.0 && is_on_slot slot (lie c a past)
+is_on_node g c past slot a = has_edge_out g a.task.vertex.0 && is_on_slot slot (location c a past)
 
 -- some queued attempt has a lesser depth
 abbrev pub is_shallower_queued : Dag → Past → ℕ → Bool

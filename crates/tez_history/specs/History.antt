@@ -190,42 +190,42 @@ life slot (NodeLost s l ∷ past) = if s == slot then l else life slot past
 life slot (_ ∷ past) = life slot past
 
 -- where the pieces of an attempt lie: nowhere, on a node slot, or there but to be kept or dropped by the open that goes on
-pub data Lie : Type 0 where
-  Nowhere : Lie
-  On : ℕ → Lie
-  InQuestion : ℕ → Lie
+pub data Location : Type 0 where
+  Nowhere : Location
+  On : ℕ → Location
+  InQuestion : ℕ → Location
 
-abbrev pub put_by : ConfValues → Stage → Lie
+abbrev pub put_by : ConfValues → Stage → Location
 put_by c (Runs place) = On (slot_of c place)
 put_by c Unknown = Nowhere
 put_by c InQueue = Nowhere
 put_by c (Waits place) = Nowhere
 put_by c Ended = Nowhere
 
-abbrev pub questioned : Lie → Lie
+abbrev pub questioned : Location → Location
 questioned (On slot) = InQuestion slot
 questioned Nowhere = Nowhere
 questioned (InQuestion slot) = Nowhere
 
-abbrev pub kept_there : Bool → Lie → Lie
+abbrev pub kept_there : Bool → Location → Location
 kept_there true (InQuestion slot) = On slot
 kept_there true Nowhere = Nowhere
 kept_there true (On slot) = On slot
 kept_there false l = l
 
-abbrev pub lost_on : ℕ → Lie → Lie
+abbrev pub lost_on : ℕ → Location → Location
 lost_on slot (On s) = if s == slot then Nowhere else On s
 lost_on slot Nowhere = Nowhere
 lost_on slot (InQuestion s) = if s == slot then Nowhere else InQuestion s
 
-abbrev pub lie : ConfValues → AttemptId → Past → Lie
-lie c a [] = Nowhere
-lie c a (Succeeded b ∷ past) = if same_attempt b a then put_by c (stage a past) else lie c a past
-lie c a (OutputLost b ∷ past) = if same_attempt b a then Nowhere else lie c a past
-lie c a (NodeLost slot _ ∷ past) = lost_on slot (lie c a past)
-lie c a (Opened _ ∷ past) = questioned (lie c a past)
-lie c a (Kept b ∷ past) = kept_there (same_attempt b a) (lie c a past)
-lie c a (_ ∷ past) = lie c a past
+abbrev pub location : ConfValues → AttemptId → Past → Location
+location c a [] = Nowhere
+location c a (Succeeded b ∷ past) = if same_attempt b a then put_by c (stage a past) else location c a past
+location c a (OutputLost b ∷ past) = if same_attempt b a then Nowhere else location c a past
+location c a (NodeLost slot _ ∷ past) = lost_on slot (location c a past)
+location c a (Opened _ ∷ past) = questioned (location c a past)
+location c a (Kept b ∷ past) = kept_there (same_attempt b a) (location c a past)
+location c a (_ ∷ past) = location c a past
 
 -- whether an attempt has fetched an input of an edge since the last open
 abbrev pub is_fetched : AttemptId → ℕ → ℕ → Past → Bool

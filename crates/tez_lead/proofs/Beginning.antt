@@ -20,7 +20,7 @@ use Rattle.tez_pool.specs.Victim.{AreIn}
 use Rattle.tez_schedule.specs.Kept.{Layout, layout, planned_at}
 use Rattle.tez_schedule.specs.Planned.{planned_vertex, planned_schedule}
 use Rattle.tez_queue.specs.Queue.{Queue, empty_queue}
-use Rattle.tez_control.specs.State.{MasterState}
+use Rattle.tez_master_view.specs.State.{MasterState}
 use Rattle.tez_core.specs.Fresh.{fresh}
 use Rattle.tez_core.specs.Parts.{task_at}
 use Rattle.tez_core.specs.Choosing.{queued_one}

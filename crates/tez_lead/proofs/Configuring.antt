@@ -20,8 +20,8 @@ use Rattle.tez_schedule.specs.State.{VertexState}
 use Rattle.tez_schedule.specs.Kept.{layout, planned_at}
 use Rattle.tez_schedule.specs.Table.{configures_at, configured_with, can_have, can_configure}
 use Rattle.tez_queue.specs.Queue.{Queue as Waiting}
-use Rattle.tez_control.specs.State.{MasterState}
-use Rattle.tez_control.specs.Settled.{settled, with_config}
+use Rattle.tez_master_view.specs.State.{MasterState}
+use Rattle.tez_master_view.specs.Settled.{settled, with_config}
 use Rattle.tez_core.specs.Choosing.{queued_one}
 use Rattle.tez_lead.specs.Kept.{IsTask, IsVertex, AreVertices, IsKept, is_waiting}
 use Rattle.tez_lead.proofs.Lists.{tells, long_map}

@@ -25,9 +25,9 @@ use Rattle.tez_pool.specs.Index.{held_at}
 use Rattle.tez_pool.specs.Table.{who, held_on}
 use Rattle.tez_pool_view.proofs.Pairs.{Pairwise, pairwise-flat, pairwise-numbers, in-map-out}
 use Rattle.tez_queue.proofs.ListLemmas.{filter-flat, length_numbers}
-use Rattle.tez_control.specs.State.{MasterState}
-use Rattle.tez_control.specs.Read.{task_in, winner_in, lie_in, is_on_slot, winners_in, lost_in}
-use Rattle.tez_control.specs.Settled.{killed, withdrawn, without_node, after_node_loss}
+use Rattle.tez_master_view.specs.State.{MasterState}
+use Rattle.tez_master_view.specs.Read.{task_in, winner_in, location_in, is_on_slot, winners_in, lost_in}
+use Rattle.tez_master_view.specs.Settled.{killed, withdrawn, without_node, after_node_loss}
 use Rattle.tez_core.specs.Parts.{task_at}
 use Rattle.tez_core.specs.Choosing.{count_at, lost_by, lost_at}
 use Rattle.tez_lead.specs.Kept.{IsTask, AreVertices}
@@ -120,7 +120,7 @@ later_lost m w slot s k ne =
     by (Some x) e =
         let apart : same_task w.task x.task ≡ false = subst (λ t. same_task w.task t ≡ false) (sym (winner_task m s x k e)) ne in
         ap (λ o. if has_edge_out m.plan x.task.vertex.0 && option_map_or (λ n. n == slot) (unwrap_or o None) false then Some x else None)
-        (row_elsewhere m.lies w.task.vertex.0 w.task.index x.task.vertex.0 x.task.index None apart)
+        (row_elsewhere m.locations w.task.vertex.0 w.task.index x.task.vertex.0 x.task.index None apart)
 
 abbrev pub Apart : TaskId → TaskId → Type 0
 Apart t s = same_task t s ≡ false

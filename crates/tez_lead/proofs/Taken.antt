@@ -17,7 +17,7 @@ use Rattle.tez_vertex_view.specs.View.{change, change_by, carry_one, failures_in
 use Rattle.tez_vertex_view.proofs.Fresh.{configured_fresh, carried_fresh}
 use Rattle.tez_schedule.specs.State.{VertexState}
 use Rattle.tez_schedule.specs.Table.{changed_at, scheduled_with}
-use Rattle.tez_control.specs.State.{MasterState}
+use Rattle.tez_master_view.specs.State.{MasterState}
 use Rattle.tez_core.specs.Parts.{task_at}
 use Rattle.tez_core.specs.Choosing.{count_at}
 use Rattle.tez_recovery.specs.Recovery.{KeptState, config_in, stood, carried, kept, all_stood, all_carried, all_kept, CanStand, CanBeCarried, CanBeKept, AllCanStand, AllCanBeCarried, AllCanBeKept, IsNew}

@@ -20,11 +20,11 @@ use Rattle.tez_pool_view.proofs.Leaving.{leave_opened, leave_over}
 use Rattle.tez_router_view.proofs.Told.{start_view}
 use Rattle.tez_schedule_view.proofs.Lists.{each-same}
 use Rattle.tez_schedule_view.proofs.Beginning.{start_view as schedule_start}
-use Rattle.tez_control.specs.View.{master_view}
-use Rattle.tez_control.proofs.Parts.{same_parts}
-use Rattle.tez_control.proofs.Own.{readied_view, published_view}
+use Rattle.tez_master_view.specs.View.{master_view}
+use Rattle.tez_master_view.proofs.Parts.{same_parts}
+use Rattle.tez_master_view.proofs.Own.{readied_view, published_view}
 use Rattle.tez_recovery.specs.Recovery.{KeptState, found, found_by}
-use Rattle.tez_recovery.specs.Laws.{knowing_no_sink, has_committed, as_ground, found_in, start_of, no_lies, fresh, open_in, open_of, begun_by, begun}
+use Rattle.tez_recovery.specs.Laws.{knowing_no_sink, has_committed, as_ground, found_in, start_of, no_locations, fresh, open_in, open_of, begun_by, begun}
 
 -- ---- a table in which each place is the same
 
@@ -35,9 +35,9 @@ by-element f h n (x ∷ xs) s =
     let rest : map f (numbers_from (suc n) (length xs)) ≡ map h xs = by-element f h (suc n) xs (λ k y g. subst (λ m. f m ≡ h y) (omega arith) (s (suc k) y g)) in
     ap (λ y. y ∷ map f (numbers_from (suc n) (length xs))) here ∙ ap (λ ys. h x ∷ ys) rest
 
-no_table : (g : Dag) → table (λ v i. None) (planned g) (length g.vertices) ≡ map no_lies g.vertices
+no_table : (g : Dag) → table (λ v i. None) (planned g) (length g.vertices) ≡ map no_locations g.vertices
 no_table g =
-    by-element (λ v. map (λ i. None) (numbers_from 0 (planned g v))) no_lies 0 g.vertices
+    by-element (λ v. map (λ i. None) (numbers_from 0 (planned g v))) no_locations 0 g.vertices
     (λ k x h. each-same (λ i. None) None 0 (planned g (0 + k)) (λ i. refl) ∙ ap (λ m. replicate (planned g m) None) (zero-add k) ∙ ap (λ o. replicate (option_map_or (λ s. s.tasks) o 0) None) h)
 
 -- ---- the first entry

@@ -11,7 +11,7 @@ use Rattle.tez_plan.specs.Dag.{Dag}
 use Rattle.tez_plan.specs.Faults.{IsValid}
 use Rattle.tez_plan.specs.Ranges.{IsInRanges}
 use Rattle.tez_conf.specs.declared.values.ConfValues.{ConfValues}
-use Rattle.tez_history.specs.History.{Past, Lie, Nowhere, On, InQuestion, extend, kept_there, live, lie}
+use Rattle.tez_history.specs.History.{Past, Location, Nowhere, On, InQuestion, extend, kept_there, live, location}
 use Rattle.tez_history.specs.Derived.{is_task}
 use Rattle.tez_history.specs.Follows.{IsMade, IsOpen, MayFollow}
 use Rattle.tez_progress.specs.Laws.{found_configs}
@@ -21,7 +21,7 @@ use Rattle.tez_vertex_view.proofs.Fresh.{configured_fresh, carried_fresh, kept_f
 use Rattle.tez_router_view.specs.View.{FitsPlan}
 use Rattle.tez_router_view.proofs.Keeping.{entry_fits}
 use Rattle.tez_schedule_view.specs.Events.{Tells}
-use Rattle.tez_control.specs.View.{master_view, slot_by}
+use Rattle.tez_master_view.specs.View.{master_view, slot_by}
 use Rattle.tez_recovery.specs.Recovery.{KeptState, config_in, slot_kept, all_stood, all_carried, all_kept, AllCanStand, AllCanBeCarried, AllCanBeKept}
 use Rattle.tez_recovery.specs.Laws.{stands_entry, carried_entry, kept_entry, IsSizedFor, AreOnce}
 use Rattle.tez_recovery.proofs.Steps.{with_vertices, stood_step, can_stand, carried_step, can_carry, kept_step, can_keep}
@@ -102,10 +102,10 @@ pub record AllKept (g : Dag) (c : ConfValues) (p : Past) (vs : List Vertex) (ks 
 -- what a winner of these has to be
 pub record IsThere (g : Dag) (c : ConfValues) (p : Past) (k : KeptState) : Type 0 where
   pub task : is_task g p k.attempt.task ≡ true
-  pub lies : slot_kept k ≡ slot_by (kept_there true (lie c k.attempt p))
+  pub locations : slot_kept k ≡ slot_by (kept_there true (location c k.attempt p))
   pub made : Tells g p k.attempt k.made
 
-twice : (b : Bool) (l : Lie) → kept_there true (kept_there b l) ≡ kept_there true l
+twice : (b : Bool) (l : Location) → kept_there true (kept_there b l) ≡ kept_there true l
 twice true Nowhere = refl
 twice true (On slot) = refl
 twice true (InQuestion slot) = refl
@@ -114,7 +114,7 @@ twice false l = refl
 there_after : (g : Dag) (c : ConfValues) (p : Past) (k x : KeptState) → IsThere g c p x → IsThere g c (kept_entry k ∷ p) x
 there_after g c p k x t = record {
   task = t.task;
-  lies = t.lies ∙ ap slot_by (sym (twice (same_attempt k.attempt x.attempt) (lie c x.attempt p)));
+  locations = t.locations ∙ ap slot_by (sym (twice (same_attempt k.attempt x.attempt) (location c x.attempt p)));
   made = λ e low from. t.made e low from;
 }
 
@@ -123,7 +123,7 @@ keeps_all g c p vs [] go dead fresh there = record { can = tt; is = refl }
 keeps_all g c p vs (k ∷ ks) go dead fresh there =
     let t = there k (inl refl) in
     let may : MayFollow g c p (kept_entry k) = (dead k.attempt.task, t.task, go.open_now) in
-    let step = kept_step g c p vs k go.made go.fits may t.made t.lies in
+    let step = kept_step g c p vs k go.made go.fits may t.made t.locations in
     let rest = keeps_all g c (kept_entry k ∷ p) (keep_one vs k.attempt) ks (record { made = (may, go.made); open_now = refl; fits = go.fits }) (λ u. dead u) (kept_fresh c vs k.attempt fresh) (λ x i. there_after g c p k x (there x (inr i))) in
     record {
       can = (can_keep g c p vs k go.made fresh t.task, subst (λ m. AllCanBeKept m ks) (sym step) rest.can);

@@ -10,7 +10,7 @@ use Rattle.tez_events.specs.declared.Entry.TheVariants.{Opened}
 use Rattle.tez_standing.specs.declared.state.Phase.{Phase}
 use Rattle.tez_standing.specs.declared.state.Phase.TheVariants.{Running, CommitStarted, Finished}
 use Rattle.tez_standing.specs.declared.state.Standing.{Standing}
-use Rattle.tez_history.specs.History.{Past, Lie, Nowhere, On, InQuestion, extend, epoch, questioned, kept_there, live, lie, made_bytes, is_up}
+use Rattle.tez_history.specs.History.{Past, Location, Nowhere, On, InQuestion, extend, epoch, questioned, kept_there, live, location, made_bytes, is_up}
 use Rattle.tez_history.specs.Rules.{is_at_start}
 use Rattle.tez_history.specs.Runs.{Run, opened_by, opened_unless, standing_entries, Unfinished}
 use Rattle.tez_laws.proofs.Going.{extend-append}
@@ -19,9 +19,9 @@ use Rattle.tez_vertex_view.specs.View.{vertices_view, restored_vertices}
 use Rattle.tez_vertex_view.proofs.Fresh.{new_fresh}
 use Rattle.tez_vertex_view.proofs.Opening.{opened_step}
 use Rattle.tez_router_view.proofs.Keeping.{entry_fits}
-use Rattle.tez_control.specs.State.{MasterState}
-use Rattle.tez_control.specs.View.{master_view, slot_by}
-use Rattle.tez_control.specs.Laws.{Goes}
+use Rattle.tez_master_view.specs.State.{MasterState}
+use Rattle.tez_master_view.specs.View.{master_view, slot_by}
+use Rattle.tez_master_view.specs.Laws.{Goes}
 use Rattle.tez_recovery.specs.Recovery.{KeptState, config_in, all_carried, all_kept, going_on, found_by, AllCanBeCarried, AllCanBeKept, CanGoOn, CanBeFoundAt, CanBeFound}
 use Rattle.tez_recovery.specs.Laws.{as_ground, found_in, as_found, open_in, start_of, stands_entry, carried_entry, kept_entry, found_entries, entries_in, start_entries, begun_by, begun, new_master, IsGoingOn, IsFoundIn, IsFoundAt}
 use Rattle.tez_recovery.proofs.Beginning.{opens_view, over_view}
@@ -34,7 +34,7 @@ use Rattle.tez_recovery.proofs.Going.{IsGoing, IsFine, IsThere, stands, carries,
 abbrev first : Past → Standing → Past
 first past s = Opened (record { 0 = suc (max s.epoch (epoch past)) }) ∷ past
 
-again : (l : Lie) → slot_by l ≡ slot_by (kept_there true (questioned l))
+again : (l : Location) → slot_by l ≡ slot_by (kept_there true (questioned l))
 again Nowhere = refl
 again (On slot) = refl
 again (InQuestion slot) = refl
@@ -59,8 +59,8 @@ there g c past s ks f k i =
     record {
       task = keeps (λ q. Rattle.tez_history.specs.Derived.is_task g q a.task) carried_entry (λ q x. refl) (stood past s) s.failures
           ∙ task_stands g (first past s) s.configured a.task (new_there past s) f.right.once (f.right.winners a (f.winners k i));
-      lies = at.lies ∙ again (lie c a past)
-          ∙ ap (λ l. slot_by (kept_there true l)) (sym (keeps (λ q. lie c a q) carried_entry (λ q x. refl) (stood past s) s.failures ∙ keeps (λ q. lie c a q) stands_entry (λ q x. refl) (first past s) s.configured));
+      locations = at.locations ∙ again (location c a past)
+          ∙ ap (λ l. slot_by (kept_there true l)) (sym (keeps (λ q. location c a q) carried_entry (λ q x. refl) (stood past s) s.failures ∙ keeps (λ q. location c a q) stands_entry (λ q x. refl) (first past s) s.configured));
       made = λ e low from. at.made e low from
           ∙ sym (keeps (λ q. made_bytes a e q) carried_entry (λ q x. refl) (stood past s) s.failures ∙ keeps (λ q. made_bytes a e q) stands_entry (λ q x. refl) (first past s) s.configured);
     }

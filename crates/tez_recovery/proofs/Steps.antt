@@ -20,7 +20,7 @@ use Rattle.tez_conf.specs.declared.values.ConfValues.{ConfValues}
 use Rattle.tez_vman.specs.declared.seen.Config.{Config}
 use Rattle.tez_vman.specs.Rules.{config as shape}
 use Rattle.tez_events.specs.declared.Entry.TheVariants.{Carried, Kept}
-use Rattle.tez_history.specs.History.{Past, Lie, kept_there, epoch, config, winner, lie, is_up, is_committing, is_finished}
+use Rattle.tez_history.specs.History.{Past, Location, kept_there, epoch, config, winner, location, is_up, is_committing, is_finished}
 use Rattle.tez_history.specs.Derived.{is_task as is_task_at, is_configured, task_count, shape_of}
 use Rattle.tez_history.specs.Follows.{IsMade, MayFollow}
 use Rattle.tez_laws.proofs.Same.{same_attempt-refl}
@@ -46,11 +46,11 @@ use Rattle.tez_schedule_view.proofs.Lists.{get-here}
 use Rattle.tez_schedule_view.proofs.Changing.{stands_view}
 use Rattle.tez_schedule_view.proofs.Winning.{kept_view}
 use Rattle.tez_schedule_view.proofs.Staying.{silent_view}
-use Rattle.tez_control.specs.State.{MasterState}
-use Rattle.tez_control.specs.View.{master_view, lie_view, slot_by}
-use Rattle.tez_control.proofs.Parts.{same_parts}
-use Rattle.tez_control.proofs.Own.{published_view, lie_set}
-use Rattle.tez_control.proofs.Configure.{links_set}
+use Rattle.tez_master_view.specs.State.{MasterState}
+use Rattle.tez_master_view.specs.View.{master_view, location_view, slot_by}
+use Rattle.tez_master_view.proofs.Parts.{same_parts}
+use Rattle.tez_master_view.proofs.Own.{published_view, location_set}
+use Rattle.tez_master_view.proofs.Configure.{links_set}
 use Rattle.tez_recovery.specs.Recovery.{KeptState, config_in, slot_kept, stood, carried, kept, CanStand, CanBeCarried, CanBeKept, IsNew}
 use Rattle.tez_recovery.specs.Laws.{IsSizedFor, stands_entry, carried_entry, kept_entry}
 
@@ -157,28 +157,28 @@ can_carry g c p vs x can few = at_task c vs x.0 (IsFresh x.1) can (λ t limit fr
 other_attempt : (a b : AttemptId) (t : TaskId) → same_task a.task t ≡ false → b.task ≡ t → same_attempt a b ≡ false
 other_attempt a b t h e = grind (arith, nat_tests)
 
-abbrev lie_by : (AttemptId → Lie) → Option AttemptId → Option ℕ
-lie_by f o = option_and_then (λ w. slot_by (f w)) o
+abbrev location_by : (AttemptId → Location) → Option AttemptId → Option ℕ
+location_by f o = option_and_then (λ w. slot_by (f w)) o
 
-kept_lie : (c : ConfValues) (p : Past) (a : AttemptId) (x : Option ℕ) (u : TaskId) → x ≡ slot_by (kept_there true (lie c a p)) → (if same_task a.task u then x else lie_view c p u) ≡ lie_view c (Kept a ∷ p) u
-kept_lie c p a x u is = by (same_task a.task u) refl where
-  later : AttemptId → Lie
-  later w = kept_there (same_attempt a w) (lie c w p)
+kept_location : (c : ConfValues) (p : Past) (a : AttemptId) (x : Option ℕ) (u : TaskId) → x ≡ slot_by (kept_there true (location c a p)) → (if same_task a.task u then x else location_view c p u) ≡ location_view c (Kept a ∷ p) u
+kept_location c p a x u is = by (same_task a.task u) refl where
+  later : AttemptId → Location
+  later w = kept_there (same_attempt a w) (location c w p)
 
-  others : (o : Option AttemptId) → same_task a.task u ≡ false → ((w : AttemptId) → o ≡ Some w → w.task ≡ u) → lie_by (λ w. lie c w p) o ≡ lie_by (λ w. kept_there (same_attempt a w) (lie c w p)) o
+  others : (o : Option AttemptId) → same_task a.task u ≡ false → ((w : AttemptId) → o ≡ Some w → w.task ≡ u) → location_by (λ w. location c w p) o ≡ location_by (λ w. kept_there (same_attempt a w) (location c w p)) o
   others None h of = refl
-  others (Some w) h of = ap (λ b. slot_by (kept_there b (lie c w p))) (sym (other_attempt a w u h (of w refl)))
+  others (Some w) h of = ap (λ b. slot_by (kept_there b (location c w p))) (sym (other_attempt a w u h (of w refl)))
 
-  by : (b : Bool) → same_task a.task u ≡ b → (if b then x else lie_view c p u) ≡ lie_by (λ w. kept_there (same_attempt a w) (lie c w p)) (if b then Some a else winner u p)
-  by true e = is ∙ ap (λ b. slot_by (kept_there b (lie c a p))) (sym (same_attempt-refl a))
+  by : (b : Bool) → same_task a.task u ≡ b → (if b then x else location_view c p u) ≡ location_by (λ w. kept_there (same_attempt a w) (location c w p)) (if b then Some a else winner u p)
+  by true e = is ∙ ap (λ b. slot_by (kept_there b (location c a p))) (sym (same_attempt-refl a))
   by false e = others (winner u p) e (winner_task p u)
 
-pub kept_step : (g : Dag) (c : ConfValues) (p : Past) (vs : List Vertex) (k : KeptState) → IsMade g c p → FitsPlan g p → MayFollow g c p (kept_entry k) → Tells g p k.attempt k.made → slot_kept k ≡ slot_by (kept_there true (lie c k.attempt p))
+pub kept_step : (g : Dag) (c : ConfValues) (p : Past) (vs : List Vertex) (k : KeptState) → IsMade g c p → FitsPlan g p → MayFollow g c p (kept_entry k) → Tells g p k.attempt k.made → slot_kept k ≡ slot_by (kept_there true (location c k.attempt p))
     → kept (with_vertices (master_view g c p) vs) k ≡ with_vertices (master_view g c (kept_entry k ∷ p)) (keep_one vs k.attempt)
-kept_step g c p vs k m fits may tells lies =
+kept_step g c p vs k m fits may tells locations =
     let a = k.attempt in
     same_parts g c (epoch p) (published_view g p) (is_committing p) (is_finished p) (is_up p) refl refl (kept_announces g c p a m may) (kept_view g c p a k.made m fits may tells)
-    (lie_set g c p (Kept a ∷ p) a.task (slot_kept k) (vertex_below g a.task.vertex.0 (task_vertex g c p m a.task may.1)) (λ u. kept_lie c p a (slot_kept k) u lies)) refl
+    (location_set g c p (Kept a ∷ p) a.task (slot_kept k) (vertex_below g a.task.vertex.0 (task_vertex g c p m a.task may.1)) (λ u. kept_location c p a (slot_kept k) u locations)) refl
 
 task_told : (o : Option Config) (n i : ℕ) → is_some o ≡ true → nat_lt i (unwrap_or o (shape n 1)).tasks ≡ true → nat_lt i (tasks_by o) ≡ true
 task_told None n i h k = cc

@@ -28,7 +28,7 @@ use Rattle.tez_standing.specs.declared.state.Phase.{Phase}
 use Rattle.tez_standing.specs.declared.state.Phase.TheVariants.{Running, CommitStarted, Finished}
 use Rattle.tez_standing.specs.declared.state.Standing.{Standing}
 use Rattle.tez_history.specs.Shape.{vertices}
-use Rattle.tez_history.specs.History.{Past, epoch, lie, is_readied, is_published}
+use Rattle.tez_history.specs.History.{Past, epoch, location, is_readied, is_published}
 use Rattle.tez_history.specs.Runs.{Found, Unfinished, AllDone, Begun, opened_by}
 use Rattle.tez_history.specs.Runs.{Standing as Ground}
 use Rattle.tez_progress.specs.Laws.{Fits, found_at, found_configs}
@@ -38,14 +38,14 @@ use Rattle.tez_vertex_view.specs.View.{new_vertices}
 use Rattle.tez_router.specs.Planned.{planned_router}
 use Rattle.tez_schedule.specs.Planned.{planned_schedule}
 use Rattle.tez_schedule_view.specs.Events.{Tells}
-use Rattle.tez_control.specs.State.{MasterState}
-use Rattle.tez_control.specs.View.{slot_by}
+use Rattle.tez_master_view.specs.State.{MasterState}
+use Rattle.tez_master_view.specs.View.{slot_by}
 use Rattle.tez_recovery.specs.Recovery.{KeptState, slot_kept, found}
 
 -- ---- a master of which nothing is known yet
 
-abbrev pub no_lies : VertexSpec → List (Option ℕ)
-no_lies s = replicate s.tasks None
+abbrev pub no_locations : VertexSpec → List (Option ℕ)
+no_locations s = replicate s.tasks None
 
 abbrev pub fresh : Dag → ConfValues → ℕ → PoolState → MasterState
 fresh g c n pool = record {
@@ -56,7 +56,7 @@ fresh g c n pool = record {
   pool = pool;
   router = planned_router g;
   schedule = planned_schedule g c;
-  lies = map no_lies g.vertices;
+  locations = map no_locations g.vertices;
   readied = replicate (length g.vertices) false;
   published = replicate (length g.vertices) false;
   committing = false;
@@ -166,7 +166,7 @@ HaveFailed c s = (x : TaskId × ℕ) → In x s.failures → x.1 < c.max_failed
 
 -- its pieces lie where they lay, and it made what the history tells
 pub record IsKeptAt (g : Dag) (c : ConfValues) (past : Past) (k : KeptState) : Type 0 where
-  pub lies : slot_kept k ≡ slot_by (lie c k.attempt past)
+  pub locations : slot_kept k ≡ slot_by (location c k.attempt past)
   pub made : Tells g past k.attempt k.made
 
 pub record IsGoingOn (g : Dag) (c : ConfValues) (past : Past) (s : Standing) (ks : List KeptState) : Type 0 where

@@ -28,9 +28,9 @@ use Rattle.tez_vertex_view.specs.View.{carry_one, keep_one}
 use Rattle.tez_router.specs.Table.{after_announce}
 use Rattle.tez_router.specs.Configure.{CanConfigure}
 use Rattle.tez_schedule.specs.Table.{can_configure, is_task, after_schedule, after_win}
-use Rattle.tez_control.specs.State.{MasterState}
-use Rattle.tez_control.specs.Read.{task_in}
-use Rattle.tez_control.specs.Settled.{with_config, with_lie}
+use Rattle.tez_master_view.specs.State.{MasterState}
+use Rattle.tez_master_view.specs.Read.{task_in}
+use Rattle.tez_master_view.specs.Settled.{with_config, with_location}
 
 -- no node where its pieces are lost, or where it made none
 pub record KeptState : Type 0 where
@@ -54,7 +54,7 @@ slot_kept k = option_map (λ n. n.slot) k.node
 
 abbrev pub kept : MasterState → KeptState → MasterState
 kept m k =
-    with_lie
+    with_location
     (record m {
       vertices = keep_one m.vertices k.attempt;
       router = after_announce m.router k.attempt;

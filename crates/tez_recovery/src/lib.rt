@@ -20,8 +20,8 @@ ghost use Rattle.tez_history.specs.Rules.{is_at_start};
 ghost use Rattle.tez_history.specs.Follows.{IsMade};
 ghost use Rattle.tez_history.specs.Runs.{Run, spent_in, opened_by};
 ghost use Rattle.tez_pool_view.specs.View.{pool_view};
-ghost use Rattle.tez_control.specs.View.{master_view};
-ghost use Rattle.tez_control.specs.Laws.{Goes};
+ghost use Rattle.tez_master_view.specs.View.{master_view};
+ghost use Rattle.tez_master_view.specs.Laws.{Goes};
 ghost use Rattle.tez_recovery.specs.Recovery.{KeptState, found, CanBeFound};
 ghost use Rattle.tez_recovery.specs.Laws.{fresh, knowing_no_sink, has_committed, as_ground, as_found, open_of, start_of, start_entries, begun, new_master, HaveFailed, IsFoundAt, IsRightFor};
 

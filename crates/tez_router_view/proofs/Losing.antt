@@ -116,12 +116,12 @@ withdraws g c slot before past (t ∷ ts) m order = by (winner t past) refl (wit
       → Withdraws g c slot before past (t ∷ ts) (withdrawn_if g c slot before past o ++ each_after (withdraw_lost g c slot before) (extend past (withdrawn_if g c slot before past o)) ts)
       (filter (is_on_node g c before slot) (cons_option o (filter_map (λ u. winner u past) ts)))
   by None h same more = same
-  by (Some w) h same more = lies (is_on_node g c before slot w) where
-    lies : (b : Bool)
+  by (Some w) h same more = locations (is_on_node g c before slot w) where
+    locations : (b : Bool)
         → Withdraws g c slot before past (t ∷ ts) ((if b then withdrawal g past w else []) ++ each_after (withdraw_lost g c slot before) (extend past (if b then withdrawal g past w else [])) ts)
         (if b then w ∷ lost_of g c slot before past ts else lost_of g c slot before past ts)
-    lies true = one w h (more w)
-    lies false = same
+    locations true = one w h (more w)
+    locations false = same
 
 -- ---- the loss of a node
 

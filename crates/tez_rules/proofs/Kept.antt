@@ -21,8 +21,8 @@ use Rattle.tez_laws.proofs.StepLaw.{event_may, done_may}
 use Rattle.tez_laws.proofs.Opening.{all_hold, winner_there}
 use Rattle.tez_laws.proofs.Withdrawals.{event_owes, done_owes}
 use Rattle.tez_laws.proofs.RunLaw.{Passes, obeys-extend}
-use Rattle.tez_control.specs.Laws.{IsMasters}
-use Rattle.tez_holdings.proofs.EntryKinds.{AllOf, HasWithdrawals, all-append, all_withdrawal, all_withdrawals, all_kills, all_made}
+use Rattle.tez_master_view.specs.Laws.{IsMasters}
+use Rattle.tez_work_view.proofs.EntryKinds.{AllOf, HasWithdrawals, all-append, all_withdrawal, all_withdrawals, all_kills, all_made}
 use Rattle.tez_rules.specs.OneMaster.{comes_in_one, has_begun, IsOfOne, FitsBytes, BytesFit, AllFit, IsRuled}
 
 -- ---- the entries of an event

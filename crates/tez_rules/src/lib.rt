@@ -18,7 +18,7 @@ ghost use Rattle.tez_history.specs.Steps.{enabled, entries_of, done_entries};
 ghost use Rattle.tez_history.specs.Rules.{is_answered, broken, owed};
 ghost use Rattle.tez_history.specs.Follows.{IsMade};
 ghost use Rattle.tez_laws.specs.Laws.{Obeys};
-ghost use Rattle.tez_control.specs.Laws.{IsMasters};
+ghost use Rattle.tez_master_view.specs.Laws.{IsMasters};
 ghost use Rattle.tez_rules.specs.OneMaster.{AllFit, IsRuled};
 
 /// A history that one master makes keeps what the rules go by: it begins with the open, and each

@@ -28,20 +28,20 @@ use Rattle.tez_history.specs.Shape.{has_sink, sinks}
 use Rattle.tez_history.specs.History.{Past, extend}
 use Rattle.tez_history.specs.Derived.{task_count, winners_of}
 use Rattle.tez_history.specs.Steps.{entries_of}
-use Rattle.tez_control.specs.State.{MasterState}
-use Rattle.tez_control.specs.Settled.{settled}
-use Rattle.tez_control.specs.Enabled.{enabled_in}
-use Rattle.tez_control.specs.View.{master_view}
+use Rattle.tez_master_view.specs.State.{MasterState}
+use Rattle.tez_master_view.specs.Settled.{settled}
+use Rattle.tez_master_view.specs.Enabled.{enabled_in}
+use Rattle.tez_master_view.specs.View.{master_view}
 use Rattle.tez_sinks.specs.Sinks.{sink_of, sink_name, TasksWereStaged}
 use Rattle.tez_log.specs.Log.{LogState}
 use Rattle.tez_master.specs.Master.{Step, Took, MasterParts, settled_by, entries_told}
 use Rattle.tez_master.specs.declared.handled.Handled.{Handled}
-use Rattle.tez_keeping.specs.Keeping.{Parts, Holds as HoldsNoted, most_entries, sum_of}
-use Rattle.tez_keeping.specs.Step.{later, stepped}
-use Rattle.tez_keeping.specs.Store.{IsSuccess, StoreStands, HasPublished, WasClear}
-use Rattle.tez_keeping.proofs.PartsKeep.{quiet_keeps}
-use Rattle.tez_keeping.proofs.EndsCommit.{ready_holds, start_holds, purged_succeeds, publish_name}
-use Rattle.tez_keeping.proofs.EndsStore.{winners_merged, winners_staged, text_found, store_ready, store_prepared, store_publish, store_purge, store_published, store_tried, tasks_stored}
+use Rattle.tez_world_invariant.specs.Keeping.{Parts, Holds as HoldsNoted, most_entries, sum_of}
+use Rattle.tez_world_invariant.specs.Step.{later, stepped}
+use Rattle.tez_world_invariant.specs.Store.{IsSuccess, StoreStands, HasPublished, WasClear}
+use Rattle.tez_world_invariant.proofs.PartsKeep.{quiet_keeps}
+use Rattle.tez_world_invariant.proofs.EndsCommit.{ready_holds, start_holds, purged_succeeds, publish_name}
+use Rattle.tez_world_invariant.proofs.EndsStore.{winners_merged, winners_staged, text_found, store_ready, store_prepared, store_publish, store_purge, store_published, store_tried, tasks_stored}
 use Rattle.tez_world.specs.declared.running.Running.{Running}
 use Rattle.tez_world.specs.declared.verdict.Took.TheVariants.{Changed}
 use Rattle.tez_world.specs.World.{Notes, AreNoted, Stands}
@@ -78,7 +78,7 @@ renoted job c ps past h = record {
   none_stopped = h.none_stopped;
   short = h.short;
   master = h.master;
-  desks = h.desks;
+  seats = h.seats;
   shelves = h.shelves;
   good = h.good;
   texts = λ v sink ready. right_text job v sink;
@@ -86,30 +86,30 @@ renoted job c ps past h = record {
   sums = λ on. refl;
 }
 
-pub by_parts : (job : Job) (c : ConfValues) (a b : Parts) (past : Past) → a.master ≡ b.master → a.desks ≡ b.desks → a.shelves ≡ b.shelves → Holds job c b past → Holds job c a past
+pub by_parts : (job : Job) (c : ConfValues) (a b : Parts) (past : Past) → a.master ≡ b.master → a.seats ≡ b.seats → a.shelves ≡ b.shelves → Holds job c b past → Holds job c a past
 by_parts job c a b past m d s h =
-    subst (λ x. HoldsNoted job c (record { master = x; desks = a.desks; shelves = a.shelves; texts = right_texts job; sums = sums job }) past) (sym m)
-    (subst (λ x. HoldsNoted job c (record { master = b.master; desks = x; shelves = a.shelves; texts = right_texts job; sums = sums job }) past) (sym d)
-    (subst (λ x. HoldsNoted job c (record { master = b.master; desks = b.desks; shelves = x; texts = right_texts job; sums = sums job }) past) (sym s) h))
+    subst (λ x. HoldsNoted job c (record { master = x; seats = a.seats; shelves = a.shelves; texts = right_texts job; sums = sums job }) past) (sym m)
+    (subst (λ x. HoldsNoted job c (record { master = b.master; seats = x; shelves = a.shelves; texts = right_texts job; sums = sums job }) past) (sym d)
+    (subst (λ x. HoldsNoted job c (record { master = b.master; seats = b.seats; shelves = x; texts = right_texts job; sums = sums job }) past) (sym s) h))
 
 -- ---- each event
 
 pub ready_kept : (job : Job) (c : ConfValues) (ps : Parts) (past : Past) (v : VertexId) → Holds job c ps past → enabled_in (master_view job.plan c past) (Ready v) ≡ true → length (later job c past (Ready v)) < most_entries
-    → Holds job c (stepped ps (Ready v) ps.desks ps.shelves) (later job c past (Ready v))
+    → Holds job c (stepped ps (Ready v) ps.seats ps.shelves) (later job c past (Ready v))
 ready_kept job c ps past v h on short = renoted job c _ (later job c past (Ready v)) (ready_holds job c (with_right_notes job ps) past v h (on_master job c ps past (Ready v) h on) short)
 
 pub start_kept : (job : Job) (c : ConfValues) (ps : Parts) (past : Past) → Holds job c ps past → enabled_in (master_view job.plan c past) CommitStart ≡ true → length (later job c past CommitStart) < most_entries
-    → Holds job c (stepped ps CommitStart ps.desks ps.shelves) (later job c past CommitStart)
+    → Holds job c (stepped ps CommitStart ps.seats ps.shelves) (later job c past CommitStart)
 start_kept job c ps past h on short = renoted job c _ (later job c past CommitStart) (start_holds job c (with_right_notes job ps) past h (on_master job c ps past CommitStart h on) short)
 
 pub publish_kept : (job : Job) (c : ConfValues) (ps : Parts) (past : Past) (v : VertexId) → Holds job c ps past → enabled_in (master_view job.plan c past) (Publish v) ≡ true → length (later job c past (Publish v)) < most_entries
-    → Holds job c (stepped ps (Publish v) ps.desks ps.shelves) (later job c past (Publish v))
+    → Holds job c (stepped ps (Publish v) ps.seats ps.shelves) (later job c past (Publish v))
 publish_kept job c ps past v h on short = quiet_keeps job c (with_right_notes job ps) past (Publish v) tt tt tt h (on_master job c ps past (Publish v) h on) short
 
 -- what came of the parts, but for the notes
 pub record IsNoted (r after : Running) (log then_log : LogState) (h : Handled) (e : CoreEvent) : Type 0 where
   pub master : (s : Step) → r.master.pending ≡ Some s → after.master ≡ record { state = settled_by r.master.state s; pending = None }
-  pub desks : after.desks ≡ r.desks
+  pub seats : after.seats ≡ r.seats
   pub shelves : after.shelves ≡ r.shelves
   pub past : then_log.past ≡ extend log.past (entries_told h)
 
@@ -119,15 +119,15 @@ noted_past job c e r after old_log log then_log h same asked s = s.past ∙ ap (
 
 pub noted_changed : (job : Job) (c : ConfValues) (e : CoreEvent) (old r after : Running) (old_log log then_log : LogState) (h : Handled) → enabled_in (master_view job.plan c old_log.past) e ≡ true
     → SameParts old r → SameLog old_log log → IsAsked (Took e) (entries_of job.plan c old_log.past e) h r log → IsNoted r after log then_log h e
-    → Holds job c (stepped (parts_of old) e old.desks.desks old.shelves) (later job c old_log.past e) → IsTaken job c e old old_log Changed after then_log
+    → Holds job c (stepped (parts_of old) e old.seats.seats old.shelves) (later job c old_log.past e) → IsTaken job c e old old_log Changed after then_log
 noted_changed job c e old r after old_log log then_log h on same same_log asked s holds =
     let past = noted_past job c e r after old_log log then_log h same_log asked s in
     let master : after.master.state ≡ settled old.master.state e =
     ap (λ (m : MasterParts). m.state) (s.master (Took e) asked.pending) ∙ ap (λ (m : MasterState). settled m e) (master_same old r same) in (
       on,
       subst (λ (p : Past). Holds job c (parts_of after) p) (sym past)
-          (by_parts job c (parts_of after) (stepped (parts_of old) e old.desks.desks old.shelves) (later job c old_log.past e) master
-          (ap (λ d. d.desks) s.desks ∙ ap (λ (ps : Parts). ps.desks) same.parts) (s.shelves ∙ ap (λ (ps : Parts). ps.shelves) same.parts) holds),
+          (by_parts job c (parts_of after) (stepped (parts_of old) e old.seats.seats old.shelves) (later job c old_log.past e) master
+          (ap (λ d. d.seats) s.seats ∙ ap (λ (ps : Parts). ps.seats) same.parts) (s.shelves ∙ ap (λ (ps : Parts). ps.shelves) same.parts) holds),
       past,
     )
 

@@ -15,19 +15,19 @@ use Rattle.tez_meaning.specs.Jobs.{Job}
 use Rattle.tez_history.specs.Shape.{Edge, edges_to}
 use Rattle.tez_history.specs.History.{Past}
 use Rattle.tez_shelves.specs.Shelf.{shelf, kept_if, same_node}
-use Rattle.tez_control.specs.Read.{winner_in}
-use Rattle.tez_control.specs.Enabled.{enabled_in}
-use Rattle.tez_control.specs.View.{master_view}
-use Rattle.tez_desks.specs.Desks.{Desk, Gathers, DesksState, number, nothing_over, numbers_differ, order_of, desk_at, after_seat, after_leaves}
-use Rattle.tez_desks.proofs.EdgeLemmas.{numbers_of_tested}
-use Rattle.tez_holdings.specs.Holdings.{Pieces, node}
-use Rattle.tez_keeping.specs.Keeping.{Parts, most_entries}
-use Rattle.tez_keeping.specs.Step.{later, stepped, left, fetched}
-use Rattle.tez_keeping.proofs.PartsKeep.{quiet_keeps}
-use Rattle.tez_keeping.proofs.PartsPlaces.{place_vacant, place_keeps, preempt_leaves}
-use Rattle.tez_keeping.proofs.PartsInputs.{fetch_keeps}
-use Rattle.tez_keeping.proofs.PartsNumbers.{parts_nodes}
-use Rattle.tez_keeping.proofs.PartsLosses.{node_low, node_keeps, output_won, output_keeps}
+use Rattle.tez_master_view.specs.Read.{winner_in}
+use Rattle.tez_master_view.specs.Enabled.{enabled_in}
+use Rattle.tez_master_view.specs.View.{master_view}
+use Rattle.tez_inflight.specs.Seats.{Seat, Gathers, SeatsState, number, nothing_over, numbers_differ, order_of, seat_at, after_seat, after_leaves}
+use Rattle.tez_inflight.proofs.EdgeLemmas.{numbers_of_tested}
+use Rattle.tez_work_view.specs.Holdings.{Pieces, node}
+use Rattle.tez_world_invariant.specs.Keeping.{Parts, most_entries}
+use Rattle.tez_world_invariant.specs.Step.{later, stepped, left, fetched}
+use Rattle.tez_world_invariant.proofs.PartsKeep.{quiet_keeps}
+use Rattle.tez_world_invariant.proofs.PartsPlaces.{place_vacant, place_keeps, preempt_leaves}
+use Rattle.tez_world_invariant.proofs.PartsInputs.{fetch_keeps}
+use Rattle.tez_world_invariant.proofs.PartsNumbers.{parts_nodes}
+use Rattle.tez_world_invariant.proofs.PartsLosses.{node_low, node_keeps, output_won, output_keeps}
 use Rattle.tez_world.specs.declared.running.Running.{Running}
 use Rattle.tez_world.specs.Holds.{parts_of, Holds, with_right_notes}
 use Rattle.tez_world.specs.Steps.{SameParts, IsPlain}
@@ -35,11 +35,11 @@ use Rattle.tez_world.specs.Steps.{SameParts, IsPlain}
 pub on_master : (job : Job) (c : ConfValues) (ps : Parts) (past : Past) (e : CoreEvent) → Holds job c ps past → enabled_in (master_view job.plan c past) e ≡ true → enabled_in ps.master e ≡ true
 on_master job c ps past e h on = ap (λ m. enabled_in m e) h.master ∙ on
 
-pub with_parts : (job : Job) (c : ConfValues) (ps : Parts) (e : CoreEvent) (past : Past) (ds ds' : List Desk) (ss ss' : List (AttemptId × (NodeId × Pieces))) → ds' ≡ ds → ss' ≡ ss → Holds job c (stepped ps e ds ss) past → Holds job c (stepped ps e ds' ss') past
+pub with_parts : (job : Job) (c : ConfValues) (ps : Parts) (e : CoreEvent) (past : Past) (ds ds' : List Seat) (ss ss' : List (AttemptId × (NodeId × Pieces))) → ds' ≡ ds → ss' ≡ ss → Holds job c (stepped ps e ds ss) past → Holds job c (stepped ps e ds' ss') past
 with_parts job c ps e past ds ds' ss ss' d s h = subst (λ x. Holds job c (stepped ps e x ss') past) (sym d) (subst (λ x. Holds job c (stepped ps e ds x) past) (sym s) h)
 
-pub desks_same : (old r : Running) → SameParts old r → r.desks.desks ≡ old.desks.desks
-desks_same old r same = ap (λ (ps : Parts). ps.desks) same.parts
+pub seats_same : (old r : Running) → SameParts old r → r.seats.seats ≡ old.seats.seats
+seats_same old r same = ap (λ (ps : Parts). ps.seats) same.parts
 
 pub shelves_same : (old r : Running) → SameParts old r → r.shelves ≡ old.shelves
 shelves_same old r same = ap (λ (ps : Parts). ps.shelves) same.parts
@@ -47,10 +47,10 @@ shelves_same old r same = ap (λ (ps : Parts). ps.shelves) same.parts
 pub master_same : (old r : Running) → SameParts old r → r.master.state ≡ old.master.state
 master_same old r same = ap (λ (ps : Parts). ps.master) same.parts
 
--- ---- events that concern no desk and no shelf
+-- ---- events that concern no seat and no shelf
 
 pub plain_kept : (job : Job) (c : ConfValues) (ps : Parts) (past : Past) (e : CoreEvent) → IsPlain e → Holds job c ps past → enabled_in ps.master e ≡ true → length (later job c past e) < most_entries
-    → Holds job c (stepped ps e ps.desks ps.shelves) (later job c past e)
+    → Holds job c (stepped ps e ps.seats ps.shelves) (later job c past e)
 plain_kept job c ps past Open plain h on short = cc
 plain_kept job c ps past (Configure v) plain h on short = quiet_keeps job c (with_right_notes job ps) past (Configure v) tt tt tt h on short
 plain_kept job c ps past (Queue t) plain h on short = quiet_keeps job c (with_right_notes job ps) past (Queue t) tt tt tt h on short
@@ -69,9 +69,9 @@ plain_kept job c ps past Finish plain h on short = quiet_keeps job c (with_right
 plain_kept job c ps past Purge plain h on short = absurd plain
 
 pub quiet_kept : (job : Job) (c : ConfValues) (old r : Running) (past : Past) (e : CoreEvent) → SameParts old r → IsPlain e → Holds job c (parts_of old) past → enabled_in (master_view job.plan c past) e ≡ true → length (later job c past e) < most_entries
-    → Holds job c (stepped (parts_of old) e r.desks.desks r.shelves) (later job c past e)
+    → Holds job c (stepped (parts_of old) e r.seats.seats r.shelves) (later job c past e)
 quiet_kept job c old r past e same plain h on short =
-    with_parts job c (parts_of old) e (later job c past e) old.desks.desks r.desks.desks old.shelves r.shelves (desks_same old r same) (shelves_same old r same)
+    with_parts job c (parts_of old) e (later job c past e) old.seats.seats r.seats.seats old.shelves r.shelves (seats_same old r same) (shelves_same old r same)
     (plain_kept job c (parts_of old) past e plain h (on_master job c (parts_of old) past e h on) short)
 
 -- ---- places
@@ -87,49 +87,49 @@ edges_in_differ job v edges all =
     ∙ numbers_of_tested (λ e. to job.plan e.1 == v) 0 job.plan.edges
 
 pub seat_free : (job : Job) (c : ConfValues) (old r : Running) (past : Past) (a : AttemptId) (p : ℕ) → SameParts old r → Holds job c (parts_of old) past → enabled_in (master_view job.plan c past) (Place a p) ≡ true
-    → order_of (desk_at r.desks.desks p) ≡ None
+    → order_of (seat_at r.seats.seats p) ≡ None
 seat_free job c old r past a p same h on =
-    ap (λ ds. order_of (desk_at ds p)) (desks_same old r same) ∙ ap order_of (place_vacant job c (with_right_notes job (parts_of old)) past a p h (on_master job c (parts_of old) past (Place a p) h on))
+    ap (λ ds. order_of (seat_at ds p)) (seats_same old r same) ∙ ap order_of (place_vacant job c (with_right_notes job (parts_of old)) past a p h (on_master job c (parts_of old) past (Place a p) h on))
 
 pub place_kept : (job : Job) (c : ConfValues) (old r mid : Running) (past : Past) (a : AttemptId) (p : ℕ) (edges : List EdgeId) → SameParts old r → Holds job c (parts_of old) past → enabled_in (master_view job.plan c past) (Place a p) ≡ true
-    → length (later job c past (Place a p)) < most_entries → edges ≡ map (λ e. edge e.0) (edges_to job.plan a.task.vertex.0) → mid.desks ≡ after_seat r.desks p a (map number edges) → mid.shelves ≡ r.shelves
-    → Holds job c (stepped (parts_of old) (Place a p) mid.desks.desks mid.shelves) (later job c past (Place a p))
-place_kept job c old r mid past a p edges same h on short all desks shelves =
+    → length (later job c past (Place a p)) < most_entries → edges ≡ map (λ e. edge e.0) (edges_to job.plan a.task.vertex.0) → mid.seats ≡ after_seat r.seats p a (map number edges) → mid.shelves ≡ r.shelves
+    → Holds job c (stepped (parts_of old) (Place a p) mid.seats.seats mid.shelves) (later job c past (Place a p))
+place_kept job c old r mid past a p edges same h on short all seats shelves =
     let ns = map (λ e. e.0) (edges_to job.plan a.task.vertex.0) in
-    with_parts job c (parts_of old) (Place a p) (later job c past (Place a p)) (slice_set old.desks.desks p (Gathers a (map nothing_over ns))) mid.desks.desks old.shelves mid.shelves
-    (ap (λ (s : DesksState). s.desks) desks
-    ∙ ap (λ es. slice_set r.desks.desks p (Gathers a (map nothing_over (map number es)))) all
-    ∙ ap (λ xs. slice_set r.desks.desks p (Gathers a (map nothing_over xs))) (numbers_again (edges_to job.plan a.task.vertex.0))
-    ∙ ap (λ ds. slice_set ds p (Gathers a (map nothing_over ns))) (desks_same old r same))
+    with_parts job c (parts_of old) (Place a p) (later job c past (Place a p)) (slice_set old.seats.seats p (Gathers a (map nothing_over ns))) mid.seats.seats old.shelves mid.shelves
+    (ap (λ (s : SeatsState). s.seats) seats
+    ∙ ap (λ es. slice_set r.seats.seats p (Gathers a (map nothing_over (map number es)))) all
+    ∙ ap (λ xs. slice_set r.seats.seats p (Gathers a (map nothing_over xs))) (numbers_again (edges_to job.plan a.task.vertex.0))
+    ∙ ap (λ ds. slice_set ds p (Gathers a (map nothing_over ns))) (seats_same old r same))
     (shelves ∙ shelves_same old r same)
     (place_keeps job c (with_right_notes job (parts_of old)) past a p h (on_master job c (parts_of old) past (Place a p) h on) short)
 
-pub left_same : (old r : Running) (a : AttemptId) → SameParts old r → (left r.master.state r.desks a).desks ≡ (left old.master.state r.desks a).desks
-left_same old r a same = ap (λ m. (left m r.desks a).desks) (master_same old r same)
+pub left_same : (old r : Running) (a : AttemptId) → SameParts old r → (left r.master.state r.seats a).seats ≡ (left old.master.state r.seats a).seats
+left_same old r a same = ap (λ m. (left m r.seats a).seats) (master_same old r same)
 
 pub preempt_kept : (job : Job) (c : ConfValues) (old r mid : Running) (past : Past) (a : AttemptId) → SameParts old r → Holds job c (parts_of old) past → enabled_in (master_view job.plan c past) (Preempt a) ≡ true
-    → length (later job c past (Preempt a)) < most_entries → mid.desks ≡ left r.master.state r.desks a → mid.shelves ≡ r.shelves
-    → Holds job c (stepped (parts_of old) (Preempt a) mid.desks.desks mid.shelves) (later job c past (Preempt a))
-preempt_kept job c old r mid past a same h on short desks shelves =
-    with_parts job c (parts_of old) (Preempt a) (later job c past (Preempt a)) (left old.master.state r.desks a).desks mid.desks.desks old.shelves mid.shelves
-    (ap (λ (s : DesksState). s.desks) desks ∙ left_same old r a same)
+    → length (later job c past (Preempt a)) < most_entries → mid.seats ≡ left r.master.state r.seats a → mid.shelves ≡ r.shelves
+    → Holds job c (stepped (parts_of old) (Preempt a) mid.seats.seats mid.shelves) (later job c past (Preempt a))
+preempt_kept job c old r mid past a same h on short seats shelves =
+    with_parts job c (parts_of old) (Preempt a) (later job c past (Preempt a)) (left old.master.state r.seats a).seats mid.seats.seats old.shelves mid.shelves
+    (ap (λ (s : SeatsState). s.seats) seats ∙ left_same old r a same)
     (shelves ∙ shelves_same old r same)
-    (preempt_leaves job c (with_right_notes job (parts_of old)) past a r.desks h (on_master job c (parts_of old) past (Preempt a) h on) short (desks_same old r same))
+    (preempt_leaves job c (with_right_notes job (parts_of old)) past a r.seats h (on_master job c (parts_of old) past (Preempt a) h on) short (seats_same old r same))
 
 -- ---- inputs
 
-fetched_same : (old r : Running) (a : AttemptId) (e i : ℕ) → SameParts old r → (fetched r.master.state r.shelves r.desks a e i).desks ≡ (fetched old.master.state old.shelves r.desks a e i).desks
+fetched_same : (old r : Running) (a : AttemptId) (e i : ℕ) → SameParts old r → (fetched r.master.state r.shelves r.seats a e i).seats ≡ (fetched old.master.state old.shelves r.seats a e i).seats
 fetched_same old r a e i same =
-    ap (λ m. (fetched m r.shelves r.desks a e i).desks) (master_same old r same) ∙ ap (λ ss. (fetched old.master.state ss r.desks a e i).desks) (shelves_same old r same)
+    ap (λ m. (fetched m r.shelves r.seats a e i).seats) (master_same old r same) ∙ ap (λ ss. (fetched old.master.state ss r.seats a e i).seats) (shelves_same old r same)
 
 pub fetch_kept : (job : Job) (c : ConfValues) (old r mid : Running) (past : Past) (a : AttemptId) (e : EdgeId) (i : ℕ) → SameParts old r → Holds job c (parts_of old) past → enabled_in (master_view job.plan c past) (Fetch a e i) ≡ true
-    → length (later job c past (Fetch a e i)) < most_entries → mid.desks ≡ fetched r.master.state r.shelves r.desks a e.0 i → mid.shelves ≡ r.shelves
-    → Holds job c (stepped (parts_of old) (Fetch a e i) mid.desks.desks mid.shelves) (later job c past (Fetch a e i))
-fetch_kept job c old r mid past a e i same h on short desks shelves =
-    with_parts job c (parts_of old) (Fetch a e i) (later job c past (Fetch a e i)) (fetched old.master.state old.shelves r.desks a e.0 i).desks mid.desks.desks old.shelves mid.shelves
-    (ap (λ (s : DesksState). s.desks) desks ∙ fetched_same old r a e.0 i same)
+    → length (later job c past (Fetch a e i)) < most_entries → mid.seats ≡ fetched r.master.state r.shelves r.seats a e.0 i → mid.shelves ≡ r.shelves
+    → Holds job c (stepped (parts_of old) (Fetch a e i) mid.seats.seats mid.shelves) (later job c past (Fetch a e i))
+fetch_kept job c old r mid past a e i same h on short seats shelves =
+    with_parts job c (parts_of old) (Fetch a e i) (later job c past (Fetch a e i)) (fetched old.master.state old.shelves r.seats a e.0 i).seats mid.seats.seats old.shelves mid.shelves
+    (ap (λ (s : SeatsState). s.seats) seats ∙ fetched_same old r a e.0 i same)
     (shelves ∙ shelves_same old r same)
-    (fetch_keeps job c (with_right_notes job (parts_of old)) past a e i r.desks h (on_master job c (parts_of old) past (Fetch a e i) h on) short (desks_same old r same))
+    (fetch_keeps job c (with_right_notes job (parts_of old)) past a e i r.seats h (on_master job c (parts_of old) past (Fetch a e i) h on) short (seats_same old r same))
 
 -- ---- losses
 
@@ -145,18 +145,18 @@ life_there job c ps past slot h on =
     get_there ps.master.pool.lives slot (omega arith)
 
 pub node_kept : (job : Job) (c : ConfValues) (old r mid : Running) (past : Past) (slot : ℕ) → SameParts old r → Holds job c (parts_of old) past → enabled_in (master_view job.plan c past) (LoseNode slot) ≡ true
-    → length (later job c past (LoseNode slot)) < most_entries → mid.desks ≡ after_leaves r.desks (numbers_from (slot * c.per_node) c.per_node)
+    → length (later job c past (LoseNode slot)) < most_entries → mid.seats ≡ after_leaves r.seats (numbers_from (slot * c.per_node) c.per_node)
     → IfSome (slice_get r.master.state.pool.lives slot) (λ life. (b : AttemptId) → shelf b mid.shelves ≡ kept_if (λ x. not (same_node x.0 (node slot life))) (shelf b r.shelves))
-    → Holds job c (stepped (parts_of old) (LoseNode slot) mid.desks.desks mid.shelves) (later job c past (LoseNode slot))
-node_kept job c old r mid past slot same h on short desks shelves =
+    → Holds job c (stepped (parts_of old) (LoseNode slot) mid.seats.seats mid.shelves) (later job c past (LoseNode slot))
+node_kept job c old r mid past slot same h on short seats shelves =
     let taken = on_master job c (parts_of old) past (LoseNode slot) h on in
     let there = life_there job c (parts_of old) past slot h taken in
     let lost : (b : AttemptId) → shelf b mid.shelves ≡ kept_if (λ x. not (same_node x.0 (node slot there.0))) (shelf b r.shelves) =
     subst (λ o. IfSome o (λ life. (b : AttemptId) → shelf b mid.shelves ≡ kept_if (λ x. not (same_node x.0 (node slot life))) (shelf b r.shelves)))
     (ap (λ m. slice_get m.pool.lives slot) (master_same old r same) ∙ there.1) shelves in
-    with_parts job c (parts_of old) (LoseNode slot) (later job c past (LoseNode slot)) (after_leaves r.desks (numbers_from (slot * c.per_node) c.per_node)).desks mid.desks.desks mid.shelves mid.shelves
-    (ap (λ (s : DesksState). s.desks) desks) refl
-    (node_keeps job c (with_right_notes job (parts_of old)) past slot there.0 r.desks mid.shelves h taken short there.1 (desks_same old r same)
+    with_parts job c (parts_of old) (LoseNode slot) (later job c past (LoseNode slot)) (after_leaves r.seats (numbers_from (slot * c.per_node) c.per_node)).seats mid.seats.seats mid.shelves mid.shelves
+    (ap (λ (s : SeatsState). s.seats) seats) refl
+    (node_keeps job c (with_right_notes job (parts_of old)) past slot there.0 r.seats mid.shelves h taken short there.1 (seats_same old r same)
     (λ b. lost b ∙ ap (λ ss. kept_if (λ x. not (same_node x.0 (node slot there.0))) (shelf b ss)) (shelves_same old r same)))
 
 some_one : (o : Option AttemptId) → is_some o ≡ true → (w : AttemptId) × (o ≡ Some w)
@@ -164,16 +164,16 @@ some_one None is = cc
 some_one (Some w) is = (w, refl)
 
 pub output_kept : (job : Job) (c : ConfValues) (old r mid : Running) (past : Past) (t : TaskId) → SameParts old r → Holds job c (parts_of old) past → enabled_in (master_view job.plan c past) (LoseOutput t) ≡ true
-    → length (later job c past (LoseOutput t)) < most_entries → mid.desks ≡ r.desks
+    → length (later job c past (LoseOutput t)) < most_entries → mid.seats ≡ r.seats
     → IfSome (winner_in r.master.state t) (λ w. (b : AttemptId) → shelf b mid.shelves ≡ (if same_attempt w b then None else shelf b r.shelves))
-    → Holds job c (stepped (parts_of old) (LoseOutput t) mid.desks.desks mid.shelves) (later job c past (LoseOutput t))
-output_kept job c old r mid past t same h on short desks shelves =
+    → Holds job c (stepped (parts_of old) (LoseOutput t) mid.seats.seats mid.shelves) (later job c past (LoseOutput t))
+output_kept job c old r mid past t same h on short seats shelves =
     let taken = on_master job c (parts_of old) past (LoseOutput t) h on in
     let there = some_one (winner_in old.master.state t) (output_won job c (with_right_notes job (parts_of old)) past t h taken) in
     let lost : (b : AttemptId) → shelf b mid.shelves ≡ (if same_attempt there.0 b then None else shelf b r.shelves) =
     subst (λ o. IfSome o (λ w. (b : AttemptId) → shelf b mid.shelves ≡ (if same_attempt w b then None else shelf b r.shelves)))
     (ap (λ m. winner_in m t) (master_same old r same) ∙ there.1) shelves in
-    with_parts job c (parts_of old) (LoseOutput t) (later job c past (LoseOutput t)) old.desks.desks mid.desks.desks mid.shelves mid.shelves
-    (ap (λ (s : DesksState). s.desks) desks ∙ desks_same old r same) refl
+    with_parts job c (parts_of old) (LoseOutput t) (later job c past (LoseOutput t)) old.seats.seats mid.seats.seats mid.shelves mid.shelves
+    (ap (λ (s : SeatsState). s.seats) seats ∙ seats_same old r same) refl
     (output_keeps job c (with_right_notes job (parts_of old)) past t there.0 mid.shelves h taken short there.1
     (λ b. lost b ∙ ap (λ ss. if same_attempt there.0 b then None else shelf b ss) (shelves_same old r same)))

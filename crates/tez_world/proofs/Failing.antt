@@ -13,24 +13,24 @@ use Rattle.tez_events.specs.declared.CoreEvent.TheVariants.{Fail}
 use Rattle.tez_meaning.specs.Jobs.{Job}
 use Rattle.tez_history.specs.History.{Past, extend, failures}
 use Rattle.tez_history.specs.Steps.{entries_of}
-use Rattle.tez_control.specs.Enabled.{enabled_in}
-use Rattle.tez_control.specs.Entries.{is_last_in}
-use Rattle.tez_control.specs.View.{master_view}
-use Rattle.tez_desks.specs.Desks.{DesksState}
+use Rattle.tez_master_view.specs.Enabled.{enabled_in}
+use Rattle.tez_master_view.specs.Entries.{is_last_in}
+use Rattle.tez_master_view.specs.View.{master_view}
+use Rattle.tez_inflight.specs.Seats.{SeatsState}
 use Rattle.tez_log.specs.Log.{LogState}
 use Rattle.tez_master.specs.Master.{Took, spent_in}
 use Rattle.tez_master.specs.declared.handled.Handled.{Handled}
-use Rattle.tez_keeping.specs.Keeping.{most_entries}
-use Rattle.tez_keeping.specs.Step.{later, stepped, left}
-use Rattle.tez_keeping.proofs.PartsPlaces.{fail_leaves}
-use Rattle.tez_keeping.proofs.PartsTaking.{spent_told}
+use Rattle.tez_world_invariant.specs.Keeping.{most_entries}
+use Rattle.tez_world_invariant.specs.Step.{later, stepped, left}
+use Rattle.tez_world_invariant.proofs.PartsPlaces.{fail_leaves}
+use Rattle.tez_world_invariant.proofs.PartsTaking.{spent_told}
 use Rattle.tez_world.specs.declared.running.Running.{Running}
 use Rattle.tez_world.specs.declared.verdict.Verdict.TheVariants.{AttemptsSpent}
 use Rattle.tez_world.specs.declared.verdict.Took.TheVariants.{Changed, Ended}
 use Rattle.tez_world.specs.Holds.{parts_of, Holds, with_right_notes}
 use Rattle.tez_world.specs.Steps.{SameParts, SameLog, IsAsked, IsFailed}
 use Rattle.tez_world.proofs.Taking.{IsSettled, changed, later_past, short_later}
-use Rattle.tez_world.proofs.Events.{on_master, with_parts, desks_same, shelves_same, left_same}
+use Rattle.tez_world.proofs.Events.{on_master, with_parts, seats_same, shelves_same, left_same}
 use Rattle.tez_world.proofs.Spent.{last_told}
 
 none_last : (b : Bool) (t : TaskId) → (if b then Some t else None) ≡ None → b ≡ false
@@ -44,21 +44,21 @@ some_last false t s is = cc
 -- ---- not the last one
 
 fail_kept : (job : Job) (c : ConfValues) (old r mid : Running) (past : Past) (a : AttemptId) → SameParts old r → Holds job c (parts_of old) past → enabled_in (master_view job.plan c past) (Fail a) ≡ true
-    → spent_in old.master.state (Fail a) ≡ None → length (later job c past (Fail a)) < most_entries → mid.desks ≡ left r.master.state r.desks a → mid.shelves ≡ r.shelves
-    → Holds job c (stepped (parts_of old) (Fail a) mid.desks.desks mid.shelves) (later job c past (Fail a))
-fail_kept job c old r mid past a same h on none short desks shelves =
+    → spent_in old.master.state (Fail a) ≡ None → length (later job c past (Fail a)) < most_entries → mid.seats ≡ left r.master.state r.seats a → mid.shelves ≡ r.shelves
+    → Holds job c (stepped (parts_of old) (Fail a) mid.seats.seats mid.shelves) (later job c past (Fail a))
+fail_kept job c old r mid past a same h on none short seats shelves =
     let taken = on_master job c (parts_of old) past (Fail a) h on in
-    with_parts job c (parts_of old) (Fail a) (later job c past (Fail a)) (left old.master.state r.desks a).desks mid.desks.desks old.shelves mid.shelves
-    (ap (λ (s : DesksState). s.desks) desks ∙ left_same old r a same)
+    with_parts job c (parts_of old) (Fail a) (later job c past (Fail a)) (left old.master.state r.seats a).seats mid.seats.seats old.shelves mid.shelves
+    (ap (λ (s : SeatsState). s.seats) seats ∙ left_same old r a same)
     (shelves ∙ shelves_same old r same)
-    (fail_leaves job c (with_right_notes job (parts_of old)) past a r.desks h taken (spent_told job c (with_right_notes job (parts_of old)) past a h taken (none_last (is_last_in old.master.state a.task) a.task none)) short (desks_same old r same))
+    (fail_leaves job c (with_right_notes job (parts_of old)) past a r.seats h taken (spent_told job c (with_right_notes job (parts_of old)) past a h taken (none_last (is_last_in old.master.state a.task) a.task none)) short (seats_same old r same))
 
 pub failed : (job : Job) (c : ConfValues) (a : AttemptId) (old r mid after : Running) (old_log log then_log : LogState) (h : Handled) → Holds job c (parts_of old) old_log.past → enabled_in (master_view job.plan c old_log.past) (Fail a) ≡ true
     → spent_in old.master.state (Fail a) ≡ None → SameParts old r → SameLog old_log log → IsAsked (Took (Fail a)) (entries_of job.plan c old_log.past (Fail a)) h r log → IsSettled r mid after log then_log h
-    → mid.desks ≡ left r.master.state r.desks a → mid.shelves ≡ r.shelves → IsFailed job c a old old_log Changed after then_log
-failed job c a old r mid after old_log log then_log h holds on none same same_log asked s desks shelves =
+    → mid.seats ≡ left r.master.state r.seats a → mid.shelves ≡ r.shelves → IsFailed job c a old old_log Changed after then_log
+failed job c a old r mid after old_log log then_log h holds on none same same_log asked s seats shelves =
     changed job c (Fail a) old r mid after old_log log then_log h on same same_log asked s
-    (fail_kept job c old r mid old_log.past a same holds on none (short_later job c (Fail a) r old_log log h same_log asked) desks shelves)
+    (fail_kept job c old r mid old_log.past a same holds on none (short_later job c (Fail a) r old_log log h same_log asked) seats shelves)
 
 -- ---- the last one
 

@@ -14,14 +14,14 @@ use Rattle.tez_history.specs.History.{Past, extend, stage}
 use Rattle.tez_history.specs.Derived.{is_processing}
 use Rattle.tez_history.specs.Steps.{enabled, entries_of, done_entries}
 use Rattle.tez_log.specs.Log.{LogState}
-use Rattle.tez_control.specs.Enabled.{enabled_in}
-use Rattle.tez_control.specs.Laws.{IsMasters}
-use Rattle.tez_control.specs.View.{master_view}
+use Rattle.tez_master_view.specs.Enabled.{enabled_in}
+use Rattle.tez_master_view.specs.Laws.{IsMasters}
+use Rattle.tez_master_view.specs.View.{master_view}
 use Rattle.tez_orders.specs.declared.report.Outcome.{Outcome}
 use Rattle.tez_orders.specs.declared.report.Outcome.TheVariants.{Done, Bad, NoMemory}
 use Rattle.tez_rules.specs.OneMaster.{IsRuled}
 use Rattle.tez_rules.proofs.Kept.{begins_ruled, opens_ruled, event_ruled, report_ruled, event_adds}
-use Rattle.tez_keeping.proofs.PartsKeep.{on_of}
+use Rattle.tez_world_invariant.proofs.PartsKeep.{on_of}
 use Rattle.tez_world.specs.declared.event.Event.{Event}
 use Rattle.tez_world.specs.declared.event.Event.TheVariants.{Core, Report}
 use Rattle.tez_world.specs.declared.opening.Began.{Began}

@@ -16,16 +16,16 @@ use Rattle.tez_history.specs.Shape.{sinks, numbers_below}
 use Rattle.tez_history.specs.History.{Past, extend}
 use Rattle.tez_history.specs.Derived.{task_count, winners_of}
 use Rattle.tez_history.specs.Steps.{entries_of}
-use Rattle.tez_control.specs.Enabled.{enabled_in}
-use Rattle.tez_control.specs.Read.{winner_in}
-use Rattle.tez_keeping.specs.Keeping.{Parts, Holds as HoldsNoted, most_entries, sum_of}
+use Rattle.tez_master_view.specs.Enabled.{enabled_in}
+use Rattle.tez_master_view.specs.Read.{winner_in}
+use Rattle.tez_world_invariant.specs.Keeping.{Parts, Holds as HoldsNoted, most_entries, sum_of}
 use Rattle.tez_world.specs.World.{Notes, AreNoted}
 use Rattle.tez_world.specs.Holds.{Holds, with_right_notes}
 use Rattle.tez_world.specs.Committing.{winners_in}
-use Rattle.tez_keeping.proofs.EndsCommit.{ready_holds, start_holds, purged_succeeds, tasks_told, collected}
+use Rattle.tez_world_invariant.proofs.EndsCommit.{ready_holds, start_holds, purged_succeeds, tasks_told, collected}
 
 abbrev pub with_notes : Parts → Notes → Parts
-with_notes ps notes = record { master = ps.master; desks = ps.desks; shelves = ps.shelves; texts = notes.texts; sums = notes.sums }
+with_notes ps notes = record { master = ps.master; seats = ps.seats; shelves = ps.shelves; texts = notes.texts; sums = notes.sums }
 
 pub noted_holds : (job : Job) (c : ConfValues) (ps : Parts) (past : Past) (notes : Notes) → Holds job c ps past → AreNoted job past notes → HoldsNoted job c (with_notes ps notes) past
 noted_holds job c ps past notes h n = record {
@@ -37,7 +37,7 @@ noted_holds job c ps past notes h n = record {
   none_stopped = h.none_stopped;
   short = h.short;
   master = h.master;
-  desks = h.desks;
+  seats = h.seats;
   shelves = h.shelves;
   good = h.good;
   texts = n.texts;

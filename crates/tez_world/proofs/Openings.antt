@@ -24,10 +24,10 @@ use Rattle.tez_pool.specs.Table.{free, new_pool}
 use Rattle.tez_pool.specs.Index.{held_at}
 use Rattle.tez_pool.specs.Victim.{AreIn}
 use Rattle.tez_core.specs.Fresh.{fresh}
-use Rattle.tez_desks.specs.Desks.{Vacant}
-use Rattle.tez_keeping.specs.Keeping.{Holds as HoldsNoted, sum_of}
-use Rattle.tez_keeping.specs.Begin.{first_past}
-use Rattle.tez_keeping.proofs.EndsBegin.{begun_holds}
+use Rattle.tez_inflight.specs.Seats.{Vacant}
+use Rattle.tez_world_invariant.specs.Keeping.{Holds as HoldsNoted, sum_of}
+use Rattle.tez_world_invariant.specs.Begin.{first_past}
+use Rattle.tez_world_invariant.proofs.EndsBegin.{begun_holds}
 use Rattle.tez_world.specs.declared.running.Running.{Running}
 use Rattle.tez_world.specs.Holds.{parts_of, right_texts, Holds}
 
@@ -54,12 +54,12 @@ mapped f (x ∷ xs) = let rest = mapped f xs in omega arith
 pub a_row_each : (job : Job) → length (right_texts job) ≡ length job.plan.vertices
 a_row_each job = mapped (sum_of job) (vertices job.plan) ∙ numbered 0 (length job.plan.vertices)
 
-pub begun_parts : (job : Job) (c : ConfValues) (r : Running) → IsValid job.plan → IsInRanges job.plan → IsInRange c → r.master.state ≡ fresh job.plan c 1 (new_pool c.nodes c.per_node c.reuse) → r.desks.desks ≡ replicate (places c) Vacant → r.shelves ≡ []
+pub begun_parts : (job : Job) (c : ConfValues) (r : Running) → IsValid job.plan → IsInRanges job.plan → IsInRange c → r.master.state ≡ fresh job.plan c 1 (new_pool c.nodes c.per_node c.reuse) → r.seats.seats ≡ replicate (places c) Vacant → r.shelves ≡ []
     → Holds job c (parts_of r) first_past
-begun_parts job c r valid ranges range master desks shelves =
-    subst (λ m. HoldsNoted job c (record { master = m; desks = r.desks.desks; shelves = r.shelves; texts = right_texts job; sums = sums job }) first_past) (sym master)
-    (subst (λ d. HoldsNoted job c (record { master = fresh job.plan c 1 (new_pool c.nodes c.per_node c.reuse); desks = d; shelves = r.shelves; texts = right_texts job; sums = sums job }) first_past) (sym desks)
-    (subst (λ s. HoldsNoted job c (record { master = fresh job.plan c 1 (new_pool c.nodes c.per_node c.reuse); desks = replicate (places c) Vacant; shelves = s; texts = right_texts job; sums = sums job }) first_past) (sym shelves)
+begun_parts job c r valid ranges range master seats shelves =
+    subst (λ m. HoldsNoted job c (record { master = m; seats = r.seats.seats; shelves = r.shelves; texts = right_texts job; sums = sums job }) first_past) (sym master)
+    (subst (λ d. HoldsNoted job c (record { master = fresh job.plan c 1 (new_pool c.nodes c.per_node c.reuse); seats = d; shelves = r.shelves; texts = right_texts job; sums = sums job }) first_past) (sym seats)
+    (subst (λ s. HoldsNoted job c (record { master = fresh job.plan c 1 (new_pool c.nodes c.per_node c.reuse); seats = replicate (places c) Vacant; shelves = s; texts = right_texts job; sums = sums job }) first_past) (sym shelves)
     (begun_holds job c (right_texts job) (sums job) valid ranges range (a_row_each job))))
 
 -- ---- devices

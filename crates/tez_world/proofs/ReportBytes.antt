@@ -31,19 +31,19 @@ use Rattle.tez_contents.specs.Contents.{made}
 use Rattle.tez_contents.specs.Laws.{task_makes}
 use Rattle.tez_contents.proofs.Attempts.{all_right}
 use Rattle.tez_contents.proofs.Sent.{runs_ordered}
-use Rattle.tez_control.specs.Laws.{bytes_of, leaves_by_key}
+use Rattle.tez_master_view.specs.Laws.{bytes_of, leaves_by_key}
 use Rattle.tez_orders.specs.Orders.{OrderParts}
 use Rattle.tez_orders.specs.Outcomes.{IsOutcome}
 use Rattle.tez_orders.specs.declared.report.Outcome.TheVariants.{Done}
 use Rattle.tez_assembly.specs.Order.{Records}
 use Rattle.tez_assembly.proofs.CutLemmas.{bytes_are}
-use Rattle.tez_desks.specs.Desks.{Out, desk_at}
-use Rattle.tez_holdings.specs.Holdings.{Pieces}
-use Rattle.tez_holdings.proofs.EntryKinds.{AllOf}
+use Rattle.tez_inflight.specs.Seats.{Out, seat_at}
+use Rattle.tez_work_view.specs.Holdings.{Pieces}
+use Rattle.tez_work_view.proofs.EntryKinds.{AllOf}
 use Rattle.tez_rules.specs.OneMaster.{AllFit}
 use Rattle.tez_rules.proofs.Kept.{TellsNone, AddsQuietly}
 use Rattle.tez_sinks.specs.Well.{IsWell}
-use Rattle.tez_keeping.specs.Reports.{made_for}
+use Rattle.tez_world_invariant.specs.Reports.{made_for}
 use Rattle.tez_world.specs.declared.running.Running.{Running}
 use Rattle.tez_world.specs.declared.reporting.At.{At}
 use Rattle.tez_world.specs.World.{bytes_out}
@@ -101,7 +101,7 @@ bytes_less e n ps is = by (list_any (is_on e) ps) is where
 -- ---- the bytes of pieces
 
 module _ (job : Job) (c : ConfValues) (old : Running) (past : Past) (at : At) (value : Records) (pieces : Pieces) (h : Holds job c (parts_of old) past) (w : IsAtWork old.master.state at)
-    (due : (o : OrderParts) → desk_at old.desks.desks at.place ≡ Out o → IsOutcome o (Done value pieces)) where
+    (due : (o : OrderParts) → seat_at old.seats.seats at.place ≡ Out o → IsOutcome o (Done value pieces)) where
   abbrev out : List Edge
   out = filter (leaves_by_key job.plan at.a.task.vertex.0) (enumerate_from 0 job.plan.edges)
 

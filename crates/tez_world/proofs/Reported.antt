@@ -29,27 +29,27 @@ use Rattle.tez_history.specs.Steps.{done_entries}
 use Rattle.tez_log.specs.Log.{LogState}
 use Rattle.tez_shelves.specs.Shelf.{shelf}
 use Rattle.tez_shelves.specs.Piece.{size}
-use Rattle.tez_control.specs.declared.why.Why.{Why}
-use Rattle.tez_control.specs.declared.why.Why.TheVariants.{OldEpoch, Stranger}
-use Rattle.tez_control.specs.State.{MasterState}
-use Rattle.tez_control.specs.Enabled.{why_in, enabled_in}
-use Rattle.tez_control.specs.Read.{processes, is_running}
-use Rattle.tez_control.specs.View.{master_view}
-use Rattle.tez_control.specs.Steady.{IsSteady}
-use Rattle.tez_control.specs.Settled.{after_done}
-use Rattle.tez_control.specs.Laws.{bytes_of, why_after, why_at}
+use Rattle.tez_master_view.specs.declared.why.Why.{Why}
+use Rattle.tez_master_view.specs.declared.why.Why.TheVariants.{OldEpoch, Stranger}
+use Rattle.tez_master_view.specs.State.{MasterState}
+use Rattle.tez_master_view.specs.Enabled.{why_in, enabled_in}
+use Rattle.tez_master_view.specs.Read.{processes, is_running}
+use Rattle.tez_master_view.specs.View.{master_view}
+use Rattle.tez_master_view.specs.Steady.{IsSteady}
+use Rattle.tez_master_view.specs.Settled.{after_done}
+use Rattle.tez_master_view.specs.Laws.{bytes_of, why_after, why_at}
 use Rattle.tez_contents.specs.Contents.{made, met_bad}
 use Rattle.tez_orders.specs.Orders.{OrderParts}
 use Rattle.tez_orders.specs.Outcomes.{ReportParts, IsOutcome, pieces_of}
 use Rattle.tez_orders.specs.declared.report.Outcome.{Outcome}
 use Rattle.tez_orders.specs.declared.report.Outcome.TheVariants.{Done, Bad}
 use Rattle.tez_assembly.specs.Order.{Records, outs_for}
-use Rattle.tez_desks.specs.Desks.{Vacant, Out, desk_at}
-use Rattle.tez_holdings.specs.Holdings.{Pieces, node}
+use Rattle.tez_inflight.specs.Seats.{Vacant, Out, seat_at}
+use Rattle.tez_work_view.specs.Holdings.{Pieces, node}
 use Rattle.tez_master.specs.Master.{HasNumbers}
-use Rattle.tez_keeping.specs.Keeping.{Parts, Holds as HoldsNoted, most_entries}
-use Rattle.tez_keeping.specs.Reports.{IsOut, HasPut}
-use Rattle.tez_keeping.specs.Store.{StoreStands, HasPublished, WasClear}
+use Rattle.tez_world_invariant.specs.Keeping.{Parts, Holds as HoldsNoted, most_entries}
+use Rattle.tez_world_invariant.specs.Reports.{IsOut, HasPut}
+use Rattle.tez_world_invariant.specs.Store.{StoreStands, HasPublished, WasClear}
 use Rattle.tez_world.specs.declared.running.Running.{Running}
 use Rattle.tez_world.specs.declared.reporting.At.{At}
 use Rattle.tez_world.specs.World.{Notes, AreNoted, Stands, ReportAdds, IsBad, IsEnd}
@@ -61,11 +61,11 @@ use Rattle.tez_world.specs.declared.verdict.Verdict.TheVariants.{Succeeded, Sink
 use Rattle.tez_world.specs.declared.verdict.Took.{Took}
 use Rattle.tez_world.specs.declared.verdict.Took.TheVariants.{Changed, Ignored, Ended as Over}
 use Rattle.tez_world.proofs.Tellings.{told_map, told_either}
-use Rattle.tez_control.proofs.TaskReadings.{processes_read}
-use Rattle.tez_keeping.proofs.PartsNumbers.{parts_attempts, parts_nodes, parts_lives, parts_containers, parts_steady}
-use Rattle.tez_keeping.proofs.EndsReports.{order_out, outcome_value, outcome_pieces, outcome_good, outcome_bad, outcome_blames, report_holds, life_told, why_told}
-use Rattle.tez_keeping.proofs.EndsCommit.{finished_committing}
-use Rattle.tez_keeping.proofs.EndsStore.{store_staging, store_report, store_no_sink, store_published, before_commit}
+use Rattle.tez_master_view.proofs.TaskReadings.{processes_read}
+use Rattle.tez_world_invariant.proofs.PartsNumbers.{parts_attempts, parts_nodes, parts_lives, parts_containers, parts_steady}
+use Rattle.tez_world_invariant.proofs.EndsReports.{order_out, outcome_value, outcome_pieces, outcome_good, outcome_bad, outcome_blames, report_holds, life_told, why_told}
+use Rattle.tez_world_invariant.proofs.EndsCommit.{finished_committing}
+use Rattle.tez_world_invariant.proofs.EndsStore.{store_staging, store_report, store_no_sink, store_published, before_commit}
 
 -- ---- an attempt at work
 
@@ -127,13 +127,13 @@ few_bytes o value pieces k = k.3
 
 pub record IsSettled (old after : Running) (was later : Past) (at : At) (bytes : List (EdgeId × ℕ)) (pieces : Pieces) : Type 0 where
   pub master : after.master.state ≡ after_done old.master.state at.a bytes
-  pub desks : after.desks.desks ≡ slice_set old.desks.desks at.place Vacant
+  pub seats : after.seats.seats ≡ slice_set old.seats.seats at.place Vacant
   pub shelves : (b : AttemptId) → shelf b after.shelves ≡ (if same_attempt at.a b then Some (at.node, pieces) else shelf b old.shelves)
   pub next : later ≡ extend was (done_entries at.a (map bytes_of bytes))
   pub short : length later < most_entries
 
 module _ (job : Job) (c : ConfValues) (old : Running) (past : Past) (at : At) (value : Records) (pieces : Pieces) (h : Holds job c (parts_of old) past) (w : IsAtWork old.master.state at)
-    (due : (o : OrderParts) → desk_at old.desks.desks at.place ≡ Out o → IsOutcome o (Done value pieces)) where
+    (due : (o : OrderParts) → seat_at old.seats.seats at.place ≡ Out o → IsOutcome o (Done value pieces)) where
   right : Parts
   right = with_right_notes job (parts_of old)
 
@@ -146,8 +146,8 @@ module _ (job : Job) (c : ConfValues) (old : Running) (past : Past) (at : At) (v
   place_is : out.place ≡ at.place
   place_is = same_Some out.place at.place (sym out.held ∙ w.held)
 
-  there : desk_at old.desks.desks at.place ≡ Out out.order
-  there = ap (desk_at old.desks.desks) (sym place_is) ∙ out.there
+  there : seat_at old.seats.seats at.place ≡ Out out.order
+  there = ap (seat_at old.seats.seats) (sym place_is) ∙ out.there
 
   pub value_is : value ≡ made job at.a past
   value_is = outcome_value job c (with_right_notes job (parts_of old)) past at.a at.place out.order h on w.held there value pieces (due out.order there)
@@ -180,7 +180,7 @@ module _ (job : Job) (c : ConfValues) (old : Running) (past : Past) (at : At) (v
       (has_put after later bytes s) (subst (λ (p : Past). length p < most_entries) s.next s.short) in
       subst (λ (p : Past). Holds job c (parts_of after) p) (sym s.next)
       (subst (λ m. HoldsNoted job c (with_right_notes job (record (parts_of after) { master = m })) (extend past (done_entries at.a (map bytes_of bytes)))) (sym s.master)
-      (subst (λ d. HoldsNoted job c (with_right_notes job (record (parts_of after) { master = after_done old.master.state at.a bytes; desks = d })) (extend past (done_entries at.a (map bytes_of bytes)))) (sym s.desks) next))
+      (subst (λ d. HoldsNoted job c (with_right_notes job (record (parts_of after) { master = after_done old.master.state at.a bytes; seats = d })) (extend past (done_entries at.a (map bytes_of bytes)))) (sym s.seats) next))
 
   -- ---- the store
 
@@ -266,7 +266,7 @@ pub record IsBlamed (job : Job) (past : Past) (a : AttemptId) : Type 0 where
   pub met : met_bad job a past ≡ true
   pub blames : bad job a.task.vertex.0 ≡ true
 
-pub blamed : (job : Job) (c : ConfValues) (r : Running) (past : Past) (at : At) (o : OrderParts) (rec : List ℕ) → Holds job c (parts_of r) past → IsAtWork r.master.state at → desk_at r.desks.desks at.place ≡ Out o → IsOutcome o (Bad rec)
+pub blamed : (job : Job) (c : ConfValues) (r : Running) (past : Past) (at : At) (o : OrderParts) (rec : List ℕ) → Holds job c (parts_of r) past → IsAtWork r.master.state at → seat_at r.seats.seats at.place ≡ Out o → IsOutcome o (Bad rec)
     → IsBlamed job past at.a
 blamed job c r past at o rec h w there is =
     let on = works_now job c r past at.a h w.works in

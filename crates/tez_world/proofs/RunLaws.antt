@@ -22,13 +22,13 @@ use Rattle.tez_history.specs.Shape.{has_sink, sinks, vertices}
 use Rattle.tez_meaning.specs.Jobs.{Job}
 use Rattle.tez_history.specs.History.{Past}
 use Rattle.tez_history.specs.Steps.{choice}
-use Rattle.tez_control.specs.Choice.{choice_in}
-use Rattle.tez_control.specs.Laws.{IsVictim}
+use Rattle.tez_master_view.specs.Choice.{choice_in}
+use Rattle.tez_master_view.specs.Laws.{IsVictim}
 use Rattle.tez_sinks.specs.Sinks.{published_view, sink_of, sink_name, HasNoSink}
-use Rattle.tez_keeping.specs.Store.{HasPublished, StoreStands, WasClear}
-use Rattle.tez_keeping.proofs.EndsBegin.{opened_stands, none_named}
-use Rattle.tez_keeping.proofs.EndsStore.{store_published}
-use Rattle.tez_keeping.proofs.PartsTaking.{choice_taken}
+use Rattle.tez_world_invariant.specs.Store.{HasPublished, StoreStands, WasClear}
+use Rattle.tez_world_invariant.proofs.EndsBegin.{opened_stands, none_named}
+use Rattle.tez_world_invariant.proofs.EndsStore.{store_published}
+use Rattle.tez_world_invariant.proofs.PartsTaking.{choice_taken}
 use Rattle.tez_world.specs.declared.event.Event.{Event}
 use Rattle.tez_world.specs.declared.event.Event.TheVariants.{Core, Report}
 use Rattle.tez_world.specs.declared.opening.Began.{Began}

@@ -12,7 +12,7 @@ use Rattle.tez_ports.specs.Content.{Named, Store, Told}
 use Rattle.tez_meaning.specs.Jobs.{Job}
 use Rattle.tez_log.specs.Log.{LogState}
 use Rattle.tez_history.specs.History.{Past}
-use Rattle.tez_keeping.specs.Keeping.{Parts, Holds as HoldsNoted}
+use Rattle.tez_world_invariant.specs.Keeping.{Parts, Holds as HoldsNoted}
 use Rattle.tez_orders.specs.Outcomes.{ReportParts}
 use Rattle.tez_world.specs.declared.event.Event.{Event}
 use Rattle.tez_world.specs.declared.event.Event.TheVariants.{Core, Report}

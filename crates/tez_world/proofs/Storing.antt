@@ -12,13 +12,13 @@ use Rattle.tez_meaning.specs.Jobs.{Job}
 use Rattle.tez_log.specs.Log.{LogState}
 use Rattle.tez_history.specs.History.{Past, extend, is_up}
 use Rattle.tez_history.specs.Steps.{entries_of}
-use Rattle.tez_control.specs.State.{MasterState}
-use Rattle.tez_control.specs.Read.{is_running, processes}
-use Rattle.tez_control.specs.Enabled.{enabled_in}
+use Rattle.tez_master_view.specs.State.{MasterState}
+use Rattle.tez_master_view.specs.Read.{is_running, processes}
+use Rattle.tez_master_view.specs.Enabled.{enabled_in}
 use Rattle.tez_sinks.specs.Sinks.{HasNoSink, IsOfNoSink}
-use Rattle.tez_keeping.specs.Keeping.{Parts}
-use Rattle.tez_keeping.specs.Step.{IsPlain}
-use Rattle.tez_keeping.specs.Store.{WasClear, StoreStands}
+use Rattle.tez_world_invariant.specs.Keeping.{Parts}
+use Rattle.tez_world_invariant.specs.Step.{IsPlain}
+use Rattle.tez_world_invariant.specs.Store.{WasClear, StoreStands}
 use Rattle.tez_world.specs.declared.running.Running.{Running}
 use Rattle.tez_world.specs.declared.verdict.Verdict.{Verdict}
 use Rattle.tez_world.specs.declared.verdict.Took.{Took}
@@ -27,8 +27,8 @@ use Rattle.tez_world.specs.World.{Notes, AreNoted, Stands, StoreAfter, IsNoFault
 use Rattle.tez_world.specs.Holds.{parts_of, with_right_notes, Holds, notes_of}
 use Rattle.tez_world.specs.Steps.{SameParts, IsTaken, IsFailed}
 use Rattle.tez_world.specs.Taking.{IsQuiet}
-use Rattle.tez_keeping.proofs.EndsStore.{store_event, store_processing}
-use Rattle.tez_keeping.proofs.PartsKeep.{leaves_event}
+use Rattle.tez_world_invariant.proofs.EndsStore.{store_event, store_processing}
+use Rattle.tez_world_invariant.proofs.PartsKeep.{leaves_event}
 
 second : (x y : Bool) → (x && y) ≡ true → y ≡ true
 second true y h = h

@@ -8,22 +8,22 @@ use Rattle.tez_events.specs.declared.CoreEvent.TheVariants.{Open, Configure, Que
 use Rattle.tez_meaning.specs.Jobs.{Job}
 use Rattle.tez_history.specs.History.{Past, extend}
 use Rattle.tez_history.specs.Steps.{entries_of}
-use Rattle.tez_control.specs.declared.why.Why.{Why}
-use Rattle.tez_control.specs.State.{MasterState}
-use Rattle.tez_control.specs.Steady.{IsSteady}
-use Rattle.tez_control.specs.Enabled.{enabled_in, why_not}
-use Rattle.tez_control.specs.Entries.{entries_in}
-use Rattle.tez_control.specs.Settled.{settled}
-use Rattle.tez_control.specs.Laws.{IsMasters}
-use Rattle.tez_control.specs.View.{master_view}
+use Rattle.tez_master_view.specs.declared.why.Why.{Why}
+use Rattle.tez_master_view.specs.State.{MasterState}
+use Rattle.tez_master_view.specs.Steady.{IsSteady}
+use Rattle.tez_master_view.specs.Enabled.{enabled_in, why_not}
+use Rattle.tez_master_view.specs.Entries.{entries_in}
+use Rattle.tez_master_view.specs.Settled.{settled}
+use Rattle.tez_master_view.specs.Laws.{IsMasters}
+use Rattle.tez_master_view.specs.View.{master_view}
 use Rattle.tez_log.specs.Log.{LogState}
 use Rattle.tez_master.specs.Master.{Step, Took, MasterParts, settled_by, entries_told, is_ignored, IsIgnoredFor, HasNumbers}
 use Rattle.tez_master.specs.declared.handled.Handled.{Handled}
 use Rattle.tez_master.specs.declared.handled.Handled.TheVariants.{Done, Single, Ignored as IsIgnored}
-use Rattle.tez_keeping.specs.Keeping.{Parts, most_entries}
-use Rattle.tez_keeping.specs.Step.{later, stepped}
-use Rattle.tez_keeping.proofs.PartsNumbers.{parts_attempts, parts_nodes, parts_lives, parts_containers, parts_steady}
-use Rattle.tez_keeping.proofs.PartsTaking.{events_taken}
+use Rattle.tez_world_invariant.specs.Keeping.{Parts, most_entries}
+use Rattle.tez_world_invariant.specs.Step.{later, stepped}
+use Rattle.tez_world_invariant.proofs.PartsNumbers.{parts_attempts, parts_nodes, parts_lives, parts_containers, parts_steady}
+use Rattle.tez_world_invariant.proofs.PartsTaking.{events_taken}
 use Rattle.tez_world.specs.declared.running.Running.{Running}
 use Rattle.tez_world.specs.declared.verdict.Took.TheVariants.{Changed, Ignored}
 use Rattle.tez_world.specs.World.{Notes}
@@ -74,13 +74,13 @@ entries_taken job c r past e h is =
 
 -- ---- parts
 
-same_parts : (a b : Parts) → a.master ≡ b.master → a.desks ≡ b.desks → a.shelves ≡ b.shelves → a.texts ≡ b.texts → a.sums ≡ b.sums → a ≡ b
+same_parts : (a b : Parts) → a.master ≡ b.master → a.seats ≡ b.seats → a.shelves ≡ b.shelves → a.texts ≡ b.texts → a.sums ≡ b.sums → a ≡ b
 same_parts a b m d s t u =
-    ap (λ x. record { master = x; desks = a.desks; shelves = a.shelves; texts = a.texts; sums = a.sums }) m
-    ∙ ap (λ x. record { master = b.master; desks = x; shelves = a.shelves; texts = a.texts; sums = a.sums }) d
-    ∙ ap (λ x. record { master = b.master; desks = b.desks; shelves = x; texts = a.texts; sums = a.sums }) s
-    ∙ ap (λ x. record { master = b.master; desks = b.desks; shelves = b.shelves; texts = x; sums = a.sums }) t
-    ∙ ap (λ x. record { master = b.master; desks = b.desks; shelves = b.shelves; texts = b.texts; sums = x }) u
+    ap (λ x. record { master = x; seats = a.seats; shelves = a.shelves; texts = a.texts; sums = a.sums }) m
+    ∙ ap (λ x. record { master = b.master; seats = x; shelves = a.shelves; texts = a.texts; sums = a.sums }) d
+    ∙ ap (λ x. record { master = b.master; seats = b.seats; shelves = x; texts = a.texts; sums = a.sums }) s
+    ∙ ap (λ x. record { master = b.master; seats = b.seats; shelves = b.shelves; texts = x; sums = a.sums }) t
+    ∙ ap (λ x. record { master = b.master; seats = b.seats; shelves = b.shelves; texts = b.texts; sums = x }) u
 
 pub length_extend : (past : Past) (es : List Entry) → length (extend past es) ≡ length past + length es
 length_extend past [] = omega arith
@@ -121,7 +121,7 @@ ignored job c e r after log then_log h why is taken grounds parts logs = (
 pub record IsSettled (r mid after : Running) (log then_log : LogState) (h : Handled) : Type 0 where
   pub kept : mid.master ≡ r.master
   pub master : (s : Step) → mid.master.pending ≡ Some s → after.master ≡ record { state = settled_by mid.master.state s; pending = None }
-  pub desks : after.desks ≡ mid.desks
+  pub seats : after.seats ≡ mid.seats
   pub shelves : after.shelves ≡ mid.shelves
   pub texts : after.texts.items ≡ r.texts.items
   pub sums : after.sums.items ≡ r.sums.items
@@ -134,11 +134,11 @@ settled_master job c e es r mid after log then_log h asked s =
     ∙ ap (λ (m : MasterParts). settled m.state e) s.kept
 
 stepped_parts : (job : Job) (c : ConfValues) (e : CoreEvent) (es : List Entry) (old r mid after : Running) (log then_log : LogState) (h : Handled) → SameParts old r → IsAsked (Took e) es h r log → IsSettled r mid after log then_log h
-    → parts_of after ≡ stepped (parts_of old) e mid.desks.desks mid.shelves
+    → parts_of after ≡ stepped (parts_of old) e mid.seats.seats mid.shelves
 stepped_parts job c e es old r mid after log then_log h same asked s =
-    same_parts (parts_of after) (stepped (parts_of old) e mid.desks.desks mid.shelves)
+    same_parts (parts_of after) (stepped (parts_of old) e mid.seats.seats mid.shelves)
     (settled_master job c e es r mid after log then_log h asked s ∙ ap (λ (ps : Parts). settled ps.master e) same.parts)
-    (ap (λ d. d.desks) s.desks)
+    (ap (λ d. d.seats) s.seats)
     s.shelves
     (s.texts ∙ ap (λ (ps : Parts). ps.texts) same.parts)
     (s.sums ∙ ap (λ (ps : Parts). ps.sums) same.parts)
@@ -156,15 +156,15 @@ short_later job c e r old log h same asked =
 -- what holds after it, by what the event makes of the parts
 pub holds_after : (job : Job) (c : ConfValues) (e : CoreEvent) (old r mid after : Running) (old_log log then_log : LogState) (h : Handled) → SameParts old r → SameLog old_log log
     → IsAsked (Took e) (entries_of job.plan c old_log.past e) h r log → IsSettled r mid after log then_log h
-    → Holds job c (stepped (parts_of old) e mid.desks.desks mid.shelves) (later job c old_log.past e)
+    → Holds job c (stepped (parts_of old) e mid.seats.seats mid.shelves) (later job c old_log.past e)
     → Holds job c (parts_of after) then_log.past
 holds_after job c e old r mid after old_log log then_log h same same_log asked s holds =
     subst (λ ps. Holds job c ps then_log.past) (sym (stepped_parts job c e (entries_of job.plan c old_log.past e) old r mid after log then_log h same asked s))
-    (subst (λ p. Holds job c (stepped (parts_of old) e mid.desks.desks mid.shelves) p) (sym (later_past job c e r mid after old_log log then_log h same_log asked s)) holds)
+    (subst (λ p. Holds job c (stepped (parts_of old) e mid.seats.seats mid.shelves) p) (sym (later_past job c e r mid after old_log log then_log h same_log asked s)) holds)
 
 pub changed : (job : Job) (c : ConfValues) (e : CoreEvent) (old r mid after : Running) (old_log log then_log : LogState) (h : Handled) → enabled_in (master_view job.plan c old_log.past) e ≡ true
     → SameParts old r → SameLog old_log log → IsAsked (Took e) (entries_of job.plan c old_log.past e) h r log → IsSettled r mid after log then_log h
-    → Holds job c (stepped (parts_of old) e mid.desks.desks mid.shelves) (later job c old_log.past e)
+    → Holds job c (stepped (parts_of old) e mid.seats.seats mid.shelves) (later job c old_log.past e)
     → IsTaken job c e old old_log Changed after then_log
 changed job c e old r mid after old_log log then_log h on same same_log asked s holds =
     (on, holds_after job c e old r mid after old_log log then_log h same same_log asked s holds, later_past job c e r mid after old_log log then_log h same_log asked s)

@@ -16,18 +16,18 @@ use Rattle.tez_laws.proofs.OneLive.{one_live}
 use Rattle.tez_laws.proofs.Tasks.{no_both}
 use Rattle.tez_progress.proofs.Ending.{goes_further}
 use Rattle.tez_contents.proofs.Attempts.{all_right}
-use Rattle.tez_control.specs.State.{MasterState}
-use Rattle.tez_control.specs.Read.{processes}
-use Rattle.tez_control.specs.Enabled.{enabled_in}
-use Rattle.tez_control.specs.View.{master_view}
-use Rattle.tez_control.proofs.TaskReadings.{processes_read}
+use Rattle.tez_master_view.specs.State.{MasterState}
+use Rattle.tez_master_view.specs.Read.{processes}
+use Rattle.tez_master_view.specs.Enabled.{enabled_in}
+use Rattle.tez_master_view.specs.View.{master_view}
+use Rattle.tez_master_view.proofs.TaskReadings.{processes_read}
 use Rattle.tez_orders.specs.declared.report.Outcome.{Outcome}
 use Rattle.tez_orders.specs.declared.report.Outcome.TheVariants.{Done, Bad, NoMemory}
 use Rattle.tez_rules.specs.OneMaster.{IsRuled}
 use Rattle.tez_rules.proofs.Unbroken.{one_unbroken}
 use Rattle.tez_sinks.specs.Well.{IsWell}
 use Rattle.tez_sinks.proofs.Wells.{well_event, well_report}
-use Rattle.tez_keeping.proofs.PartsKeep.{on_of}
+use Rattle.tez_world_invariant.proofs.PartsKeep.{on_of}
 use Rattle.tez_world.specs.declared.event.Event.{Event}
 use Rattle.tez_world.specs.declared.event.Event.TheVariants.{Core, Report}
 use Rattle.tez_world.specs.declared.running.Running.{Running}

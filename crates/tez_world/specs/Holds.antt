@@ -14,20 +14,20 @@ use Rattle.tez_history.specs.Shape.{vertices}
 use Rattle.tez_history.specs.History.{Past}
 use Rattle.tez_rules.specs.OneMaster.{IsRuled}
 use Rattle.tez_sinks.specs.Well.{IsWell}
-use Rattle.tez_keeping.specs.Keeping.{Parts, Holds as HoldsNoted, sum_of}
+use Rattle.tez_world_invariant.specs.Keeping.{Parts, Holds as HoldsNoted, sum_of}
 use Rattle.tez_world.specs.Lawful.{BytesAreTold}
 use Rattle.tez_world.specs.World.{Phase, Down, Up, Over, Notes}
 use Rattle.tez_world.specs.declared.running.Running.{Running}
 
 abbrev pub parts_of : Running → Parts
-parts_of r = record { master = r.master.state; desks = r.desks.desks; shelves = r.shelves; texts = r.texts.items; sums = r.sums.items }
+parts_of r = record { master = r.master.state; seats = r.seats.seats; shelves = r.shelves; texts = r.texts.items; sums = r.sums.items }
 
 -- the records and bytes of the sinks are what they are to be
 abbrev pub right_texts : Job → List (ℕ × ℕ)
 right_texts job = map (sum_of job) (vertices job.plan)
 
 abbrev pub with_right_notes : Job → Parts → Parts
-with_right_notes job ps = record { master = ps.master; desks = ps.desks; shelves = ps.shelves; texts = right_texts job; sums = sums job }
+with_right_notes job ps = record { master = ps.master; seats = ps.seats; shelves = ps.shelves; texts = right_texts job; sums = sums job }
 
 -- what is noted of the sinks is not in it: it comes from the store, which may not tell
 abbrev pub Holds : Job → ConfValues → Parts → Past → Type 0
@@ -47,7 +47,7 @@ phase_of None false = Down
 
 abbrev pub queue_of : Option Running → List AttemptId
 queue_of None = []
-queue_of (Some r) = r.desks.queue
+queue_of (Some r) = r.seats.queue
 
 abbrev pub IsRunning : Job → ConfValues → Option Running → Past → Type 0
 IsRunning job c None past = past ≡ []

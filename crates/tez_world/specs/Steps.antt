@@ -14,8 +14,8 @@ use Rattle.tez_meaning.specs.Jobs.{Job}
 use Rattle.tez_meaning.specs.Value.{sums}
 use Rattle.tez_history.specs.History.{extend}
 use Rattle.tez_history.specs.Steps.{entries_of}
-use Rattle.tez_control.specs.Enabled.{enabled_in, why_not}
-use Rattle.tez_control.specs.View.{master_view}
+use Rattle.tez_master_view.specs.Enabled.{enabled_in, why_not}
+use Rattle.tez_master_view.specs.View.{master_view}
 use Rattle.tez_log.specs.Log.{LogState}
 use Rattle.tez_master.specs.Master.{Step, entries_told, records_told}
 use Rattle.tez_master.specs.declared.handled.Handled.{Handled}
@@ -24,8 +24,8 @@ use Rattle.tez_world.specs.declared.verdict.Device.TheVariants as device
 use Rattle.tez_world.specs.declared.verdict.Verdict.TheVariants.{Succeeded, SinkExists, AttemptsSpent, DeviceFault}
 use Rattle.tez_world.specs.declared.verdict.Took.{Took}
 use Rattle.tez_world.specs.declared.verdict.Took.TheVariants.{Changed, Ignored, Ended}
-use Rattle.tez_keeping.specs.Keeping.{most_entries}
-use Rattle.tez_keeping.specs.Store.{IsSuccess}
+use Rattle.tez_world_invariant.specs.Keeping.{most_entries}
+use Rattle.tez_world_invariant.specs.Store.{IsSuccess}
 use Rattle.tez_orders.specs.Outcomes.{ReportParts}
 use Rattle.tez_world.specs.declared.event.Event.TheVariants.{Report}
 use Rattle.tez_world.specs.World.{Up, IsEnd, IsBad, Adds, IsWhyUp}
@@ -34,7 +34,7 @@ use Rattle.tez_world.specs.Holds.{parts_of, Holds}
 -- the parts of a running world are the same, but for an answer that is not settled
 pub record SameParts (old new : Running) : Type 0 where
   pub parts : parts_of new ≡ parts_of old
-  pub queue : new.desks.queue ≡ old.desks.queue
+  pub queue : new.seats.queue ≡ old.seats.queue
 
 -- nothing was written
 pub record SameLog (old new : LogState) : Type 0 where

@@ -2,12 +2,12 @@
 ghost use Rattle.std.specs.Prelude.{◌≡◌, ◌≤◌, ◌++◌, ◌<◌, ◌+◌, not, true, length, Some, None, IsSome, IfOk, OnOk};
 ghost use Rattle.tez_history.specs.History.{extend};
 ghost use Rattle.tez_history.specs.Steps.{entries_of};
-ghost use Rattle.tez_control.specs.Enabled.{enabled_in, why_not};
-ghost use Rattle.tez_control.specs.View.{master_view};
+ghost use Rattle.tez_master_view.specs.Enabled.{enabled_in, why_not};
+ghost use Rattle.tez_master_view.specs.View.{master_view};
 ghost use Rattle.tez_entries.specs.Records.{records_of};
 ghost use Rattle.tez_master.specs.Master.{Step, Took, settled_by, is_ignored, IsIgnoredFor, entries_told, records_told, spent_told, spent_in, HasNumbers};
-ghost use Rattle.tez_control.specs.Steady.{IsSteady};
-ghost use Rattle.tez_keeping.specs.Keeping.{most_entries};
+ghost use Rattle.tez_master_view.specs.Steady.{IsSteady};
+ghost use Rattle.tez_world_invariant.specs.Keeping.{most_entries};
 ghost use Rattle.tez_world.specs.Holds.{parts_of, Holds, notes_of};
 ghost use Rattle.tez_world.specs.Steps.{SameParts, SameLog, IsAsked};
 
@@ -76,7 +76,7 @@ pub(crate) fn settle(running: &mut Running, log: &mut Log, handled: Handled)
     requires entries { length (entries_told handled) ≤ log.old.entry_room }
     requires records { length (records_told handled) ≤ log.old.record_room }
     ensures master { (s : Step) → running.old.master.pending ≡ Some s → running.new.master ≡ record { state = settled_by running.old.master.state s; pending = None } }
-    ensures desks { running.new.desks ≡ running.old.desks }
+    ensures seats { running.new.seats ≡ running.old.seats }
     ensures shelves { running.new.shelves ≡ running.old.shelves }
     ensures texts { running.new.texts.items ≡ running.old.texts.items }
     ensures sums { running.new.sums.items ≡ running.old.sums.items }

@@ -6,9 +6,9 @@ ghost use Rattle.tez_vman.specs.declared.seen.Config.{Config as Configured};
 ghost use Rattle.tez_events.specs.declared.CoreEvent.{CoreEvent};
 ghost use Rattle.tez_history.specs.Shape.{edges_to};
 ghost use Rattle.tez_schedule.specs.Table.{config_at};
-ghost use Rattle.tez_desks.specs.Desks.{Gathered, Gathers, Records as RecordList, desk_at, gatherer, numbered};
+ghost use Rattle.tez_inflight.specs.Seats.{Gathered, Gathers, Records as RecordList, seat_at, gatherer, numbered};
 ghost use Rattle.tez_assembly.specs.Order.{order_for};
-ghost use Rattle.tez_keeping.specs.Step.{fetched};
+ghost use Rattle.tez_world_invariant.specs.Step.{fetched};
 ghost use Rattle.tez_world.specs.Holds.{parts_of, Holds, notes_of};
 ghost use Rattle.tez_world.specs.Steps.{SameParts, SameLog, IsTaken};
 
@@ -18,11 +18,11 @@ use crate::verdict::Took;
 use std::alloc::{AllocError, Global};
 use tez_assembly::assemble;
 use tez_conf::Conf;
-use tez_control::Why;
 use tez_events::CoreEvent;
 use tez_ids::{AttemptId, EdgeId, VertexId};
 use tez_log::Log;
 use tez_master::Handled;
+use tez_master_view::Why;
 use tez_meaning::Job;
 use tez_orders::Order;
 use tez_record::Records;
@@ -61,7 +61,7 @@ pub(crate) fn fetch(
     Ok(Took::Changed)
 }
 
-/// Copies the piece behind an input to the desk of the attempt, where it is on a shelf.
+/// Copies the piece behind an input to the seat of the attempt, where it is on a shelf.
 fn copy_piece(
     alloc: Global,
     running: &mut Running,
@@ -69,7 +69,7 @@ fn copy_piece(
     e: EdgeId,
     input: u32,
 ) -> Result<(), AllocError>
-    ensures ok { OnOk result (running.new ≡ record running.old { desks = fetched running.old.master.state running.old.shelves running.old.desks a e.0 input }) }
+    ensures ok { OnOk result (running.new ≡ record running.old { seats = fetched running.old.master.state running.old.shelves running.old.seats a e.0 input }) }
     ensures refused { OnErr result (running.new ≡ running.old) }
 {
     let Some((w, output)) = running.master.piece_of(a, e, input) else {
@@ -79,7 +79,7 @@ fn copy_piece(
         return Ok(());
     };
     match running.shelves.piece(w, e, output) {
-        Some(piece) => running.desks.gather(alloc, place, e, &piece),
+        Some(piece) => running.seats.gather(alloc, place, e, &piece),
         None => Ok(()),
     }
 }
@@ -108,7 +108,7 @@ pub(crate) fn send(
     };
     let order = order_of(alloc, job, running, a, place)?;
     let given = order.copy(alloc)?;
-    running.desks.put_out(place, order, given);
+    running.seats.put_out(place, order, given);
     settle(running, log, handled);
     Ok(Took::Changed)
 }
@@ -124,12 +124,12 @@ fn order_of(
     requires vertex { a.task.vertex.0 < length job.now.plan.vertices }
     requires configured { IfSome (config_at running.now.master.state.schedule a.task.vertex.0) (λ c. a.task.index < c.tasks) }
     requires there { IsSome (config_at running.now.master.state.schedule a.task.vertex.0) }
-    requires gathers { gatherer (desk_at running.now.desks.desks place) ≡ Some a }
-    requires gathered { (parts : Gathered) → desk_at running.now.desks.desks place ≡ Gathers a parts → map (λ part. part.0) parts ≡ map (λ e. e.0) (edges_to job.now.plan a.task.vertex.0) }
+    requires gathers { gatherer (seat_at running.now.seats.seats place) ≡ Some a }
+    requires gathered { (parts : Gathered) → seat_at running.now.seats.seats place ≡ Gathers a parts → map (λ part. part.0) parts ≡ map (λ e. e.0) (edges_to job.now.plan a.task.vertex.0) }
     ensures { IfOk result (λ o. (s : Vertex) (copy : ℕ → RecordList) (c : Configured)
         → slice_get job.now.plan.vertices a.task.vertex.0 ≡ Some s
         → config_at running.now.master.state.schedule a.task.vertex.0 ≡ Some c
-        → desk_at running.now.desks.desks place ≡ Gathers a (map (λ e. (e.0, copy e.0)) (edges_to job.now.plan a.task.vertex.0))
+        → seat_at running.now.seats.seats place ≡ Gathers a (map (λ e. (e.0, copy e.0)) (edges_to job.now.plan a.task.vertex.0))
         → o ≡ order_for job.now c.tasks a place copy s) }
 {
     let parts = gathered_at(alloc, running, place)?;
@@ -156,9 +156,9 @@ fn gathered_at(
     running: &Running,
     place: u32,
 ) -> Result<Vec<(EdgeId, Records)>, AllocError>
-    ensures { IfOk result (λ found. (a : Attempt) (parts : Gathered) → desk_at running.now.desks.desks place ≡ Gathers a parts → map numbered found.items ≡ parts) }
+    ensures { IfOk result (λ found. (a : Attempt) (parts : Gathered) → seat_at running.now.seats.seats place ≡ Gathers a parts → map numbered found.items ≡ parts) }
 {
-    match running.desks.gathered(place) {
+    match running.seats.gathered(place) {
         Some((_, parts)) => copy_parts(alloc, parts),
         None => Ok(Vec::new(alloc)),
     }

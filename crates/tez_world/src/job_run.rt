@@ -2,7 +2,7 @@
 ghost use Rattle.std.specs.Prelude.{◌≡◌, ◌≢◌, ◌≤◌, ◌↔◌, reverse, [], None, is_some, IfOk, OnErr, IsTrue};
 ghost use Rattle.std.specs.Option.{option_map};
 ghost use Rattle.tez_ports.specs.Content.{Named, Store, Told};
-ghost use Rattle.tez_keeping.specs.Store.{HasPublished};
+ghost use Rattle.tez_world_invariant.specs.Store.{HasPublished};
 ghost use Rattle.tez_world.specs.World.{Down, Up, Over, StepIs, Stands, StoreAfter, IsIgnored, FaultIs, IsNoFault, next_in, tail_of};
 ghost use Rattle.tez_world.specs.Lawful.{IsTrace, IsGoing};
 ghost use Rattle.tez_world.specs.Taking.{is_ended, is_open};
@@ -15,9 +15,9 @@ use crate::verdict::Took;
 use std::alloc::{AllocError, Global};
 use std::marker::Model;
 use tez_conf::Conf;
-use tez_control::Why;
 use tez_events::{CoreEvent, Trace};
 use tez_log::Log;
+use tez_master_view::Why;
 use tez_meaning::Job;
 use tez_orders::Order;
 use tez_ports::OutputStore;
@@ -171,7 +171,7 @@ impl JobRun {
         ensures taken { self.new ≡ record self.old { queue = tail_of self.old.queue } }
     {
         match &mut self.running {
-            Some(running) => running.desks.take(),
+            Some(running) => running.seats.take(),
             None => None,
         }
     }

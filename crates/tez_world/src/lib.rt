@@ -21,4 +21,3 @@ pub use event::Event;
 pub use job_run::{JobRun, Mode};
 pub use verdict::{Device, Took, Verdict};
 pub use world::World;
-

@@ -5,9 +5,9 @@ ghost use Rattle.tez_ids.specs.Same.{same_attempt};
 ghost use Rattle.tez_lists.specs.Numbers.{numbers_from};
 ghost use Rattle.tez_events.specs.declared.CoreEvent.{CoreEvent};
 ghost use Rattle.tez_shelves.specs.Shelf.{shelf, kept_if, same_node};
-ghost use Rattle.tez_control.specs.Read.{winner_in};
-ghost use Rattle.tez_desks.specs.Desks.{after_leaves};
-ghost use Rattle.tez_holdings.specs.Holdings.{node};
+ghost use Rattle.tez_master_view.specs.Read.{winner_in};
+ghost use Rattle.tez_inflight.specs.Seats.{after_leaves};
+ghost use Rattle.tez_work_view.specs.Holdings.{node};
 ghost use Rattle.tez_world.specs.Holds.{parts_of, Holds, notes_of};
 ghost use Rattle.tez_world.specs.Steps.{SameParts, SameLog, IsTaken};
 
@@ -46,16 +46,16 @@ pub(crate) fn lose_node(
     Ok(Took::Changed)
 }
 
-/// Clears the desks of a node's places, and its shelf.
+/// Clears the seats of a node's places, and its shelf.
 fn empty_node(running: &mut Running, conf: &Conf, slot: u16)
     ensures master { running.new.master ≡ running.old.master }
-    ensures desks { running.new.desks ≡ after_leaves running.old.desks (numbers_from (slot * conf.now.per_node) conf.now.per_node) }
+    ensures seats { running.new.seats ≡ after_leaves running.old.seats (numbers_from (slot * conf.now.per_node) conf.now.per_node) }
     ensures shelves { IfSome (slice_get running.old.master.state.pool.lives slot) (λ life. (b : Attempt) → shelf b running.new.shelves ≡ kept_if (λ x. not (same_node x.0 (node slot life))) (shelf b running.old.shelves)) }
     ensures texts { running.new.texts ≡ running.old.texts }
     ensures sums { running.new.sums ≡ running.old.sums }
 {
     let per_node = conf.values().per_node as u32;
-    running.desks.leave_all(slot as u32 * per_node, per_node);
+    running.seats.leave_all(slot as u32 * per_node, per_node);
     if let Some(life) = running.master.life_of(slot) {
         running.shelves.lose_node(NodeId { slot, life });
     }
@@ -88,7 +88,7 @@ pub(crate) fn lose_output(
 /// Takes what the winner of a task made from its shelf.
 fn drop_winner(running: &mut Running, t: TaskId)
     ensures master { running.new.master ≡ running.old.master }
-    ensures desks { running.new.desks ≡ running.old.desks }
+    ensures seats { running.new.seats ≡ running.old.seats }
     ensures shelves { IfSome (winner_in running.old.master.state t) (λ w. (b : Attempt) → shelf b running.new.shelves ≡ (if same_attempt w b then None else shelf b running.old.shelves)) }
     ensures texts { running.new.texts ≡ running.old.texts }
     ensures sums { running.new.sums ≡ running.old.sums }

@@ -17,9 +17,9 @@ use crate::verdict::{Device, Verdict};
 use std::alloc::{AllocError, Global};
 use tez_conf::Conf;
 use tez_dag_json::dag_text;
-use tez_desks::Desks;
 use tez_events::{Entry, JournalRecord};
 use tez_ids::{Bytes, Epoch, VertexId};
+use tez_inflight::Seats;
 use tez_log::Log;
 use tez_master::Master;
 use tez_meaning::Job;
@@ -94,7 +94,7 @@ fn new_running(alloc: Global, job: &Job, conf: &Conf) -> Result<Running, AllocEr
     let texts = vec![in alloc; (0, 0); job.plan().vertices().len()]?;
     Ok(Running {
         master: first_master(alloc, plan, *conf, pool)?,
-        desks: Desks::new(alloc, places)?,
+        seats: Seats::new(alloc, places)?,
         shelves: Shelves::new(alloc),
         texts,
         sums: Vec::new(alloc),

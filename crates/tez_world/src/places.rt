@@ -3,7 +3,7 @@ ghost use Rattle.std.specs.Prelude.{◌≡◌, IfOk, OnErr, OnOk};
 ghost use Rattle.tez_events.specs.declared.CoreEvent.{CoreEvent};
 ghost use Rattle.tez_world.specs.Holds.{parts_of, Holds, notes_of};
 ghost use Rattle.tez_master.specs.Master.{spent_told};
-ghost use Rattle.tez_keeping.specs.Step.{left};
+ghost use Rattle.tez_world_invariant.specs.Step.{left};
 ghost use Rattle.tez_world.specs.Steps.{SameParts, SameLog, IsTaken, IsFailed};
 
 use crate::asking::{ask, settle};
@@ -39,7 +39,7 @@ pub(crate) fn place(
         return Ok(Took::Ignored(why));
     }
     let edges = edges_into_vertex(alloc, job.plan(), a.task.vertex)?;
-    running.desks.seat(alloc, place, a, edges.as_slice())?;
+    running.seats.seat(alloc, place, a, edges.as_slice())?;
     settle(running, log, handled);
     Ok(Took::Changed)
 }
@@ -68,16 +68,16 @@ pub(crate) fn preempt(
     Ok(Took::Changed)
 }
 
-/// Clears the desk of an attempt.
+/// Clears the seat of an attempt.
 fn leave(running: &mut Running, a: AttemptId)
     ensures master { running.new.master ≡ running.old.master }
-    ensures desks { running.new.desks ≡ left running.old.master.state running.old.desks a }
+    ensures seats { running.new.seats ≡ left running.old.master.state running.old.seats a }
     ensures shelves { running.new.shelves ≡ running.old.shelves }
     ensures texts { running.new.texts ≡ running.old.texts }
     ensures sums { running.new.sums ≡ running.old.sums }
 {
     if let Some((place, _)) = running.master.place_of(a) {
-        running.desks.leave(place);
+        running.seats.leave(place);
     }
 }
 

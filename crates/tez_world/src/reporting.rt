@@ -6,12 +6,12 @@ ghost use Rattle.tez_ports.specs.Content.{Named, Told, IsEither};
 ghost use Rattle.tez_plan.specs.Dag.{edge, is_scatter_gather};
 ghost use Rattle.tez_shelves.specs.Piece.{bytes_on};
 ghost use Rattle.tez_pool.specs.Table.{place_held};
-ghost use Rattle.tez_control.specs.Enabled.{why_in};
-ghost use Rattle.tez_desks.specs.Desks.{Out, desk_at};
+ghost use Rattle.tez_master_view.specs.Enabled.{why_in};
+ghost use Rattle.tez_inflight.specs.Seats.{Out, seat_at};
 ghost use Rattle.tez_history.specs.Shape.{has_sink};
 ghost use Rattle.tez_orders.specs.Orders.{OrderParts};
 ghost use Rattle.tez_orders.specs.Outcomes.{IsOutcome};
-ghost use Rattle.tez_keeping.specs.Reports.{made_for};
+ghost use Rattle.tez_world_invariant.specs.Reports.{made_for};
 ghost use Rattle.tez_world.specs.World.{Stands, StoreAfter, IsIgnored, FaultIs, IsNoFault};
 ghost use Rattle.tez_world.specs.Holds.{parts_of, Holds, notes_of};
 ghost use Rattle.tez_world.specs.Steps.{SameParts, SameLog, IsReported};
@@ -23,10 +23,10 @@ use crate::running::Running;
 use crate::verdict::{Device, Took, Verdict};
 use std::alloc::{AllocError, Global};
 use tez_conf::Conf;
-use tez_control::Why;
 use tez_ids::{AttemptId, EdgeId, NodeId, VertexId};
 use tez_log::Log;
 use tez_master::Handled;
+use tez_master_view::Why;
 use tez_meaning::Job;
 use tez_orders::{Outcome, Report};
 use tez_plan::{EdgeSpec, Movement, Plan};
@@ -86,7 +86,7 @@ fn at_work(running: &Running, r: &Report) -> Result<At, Why>
     ensures ignored { IfErr result (λ why. (why_in running.now.master.state r.now.order.attempt ≡ Some why) ⊎ (why ≡ Why.Stranger)) }
     ensures own { IfOk result (λ at. at.a ≡ r.now.order.attempt) }
     ensures works { IfOk result (λ at. IsAtWork running.now.master.state at) }
-    ensures there { IfOk result (λ at. desk_at running.now.desks.desks at.place ≡ Out r.now.order) }
+    ensures there { IfOk result (λ at. seat_at running.now.seats.seats at.place ≡ Out r.now.order) }
 {
     let a = r.order().attempt();
     if let Some(why) = running.master.why(a) {
@@ -95,7 +95,7 @@ fn at_work(running: &Running, r: &Report) -> Result<At, Why>
     let Some((place, node)) = running.master.place_of(a) else {
         return Err(Why::Stranger);
     };
-    let Some(order) = running.desks.order_at(place) else {
+    let Some(order) = running.seats.order_at(place) else {
         return Err(Why::Stranger);
     };
     if order.same(r.order()) {
@@ -180,7 +180,7 @@ fn done<S: OutputStore>(
 ) -> Result<Took, AllocError>
     requires holds { Holds job.now conf.now (parts_of running.old) log.old.past }
     requires works { IsAtWork running.old.master.state at }
-    requires due { (o : OrderParts) → desk_at running.old.desks.desks at.place ≡ Out o → IsOutcome o (Outcome.Done value.now pieces) }
+    requires due { (o : OrderParts) → seat_at running.old.seats.seats at.place ≡ Out o → IsOutcome o (Outcome.Done value.now pieces) }
     ensures taken { IfOk result (λ took. IsDoneReport job.now conf.now at.a (Outcome.Done value.now pieces) running.old log.old took running.new log.new) }
     ensures refused_parts { OnErr result (SameParts running.old running.new) }
     ensures refused_log { OnErr result (SameLog log.old log.new) }
@@ -206,7 +206,7 @@ fn done<S: OutputStore>(
     if running.shelves.put(at.a, at.node, pieces).is_err() {
         return Err(AllocError);
     }
-    running.desks.leave(at.place);
+    running.seats.leave(at.place);
     settle(running, log, handled);
     Ok(Took::Changed)
 }

@@ -1,5 +1,5 @@
 //! The parts of a world whose master is up.
-use tez_desks::Desks;
+use tez_inflight::Seats;
 use tez_master::Master;
 use tez_shelves::Shelves;
 
@@ -8,7 +8,7 @@ use tez_shelves::Shelves;
 #[derive(Drop)]
 pub(crate) struct Running {
     pub(crate) master: Master,
-    pub(crate) desks: Desks,
+    pub(crate) seats: Seats,
     pub(crate) shelves: Shelves,
     pub(crate) texts: Vec<(u64, u64)>,
     pub(crate) sums: Vec<(u64, u64)>,

@@ -1,7 +1,7 @@
 use Rattle.std.specs.Prelude.{length, is_some, ◌≤◌, refl}
 use Rattle.std.proofs.Common.{ap, sym, ◌∙◌, subst}
 use Rattle.tez_events.specs.declared.CoreEvent.TheVariants.{Purge}
-use Rattle.tez_control.specs.View.{master_view}
+use Rattle.tez_master_view.specs.View.{master_view}
 use Rattle.tez_world.proofs.Taking.{is_on, went}
 use Rattle.tez_world.specs.World.{Notes}
 use Rattle.tez_world.specs.Holds.{notes_of}
@@ -24,7 +24,7 @@ pub returns-in-Ok-clause-taken : goal.returns-in-Ok-clause-taken
 returns-in-Ok-clause-taken g c =
     let on = is_on (master_view c.args.job.now.plan c.args.conf.now c.args.log.now.past) Purge c.in_ok-handled.handled c.in_ok-handled.ensures.taken (went c.in_ok-handled.handled c.in_default.not-Ignored) in
     let asked = c.in_ok-handled.ensures.asked on in
-    let past = (noted_past c.args.job.now c.args.conf.now Purge c.ask.new.running c.settle.new.running c.args.log.now c.ask.new.log c.settle.new.log c.in_ok-handled.handled c.ask.ensures.log asked (record { master = c.settle.ensures.master; desks = c.settle.ensures.desks; shelves = c.settle.ensures.shelves; past = c.settle.ensures.past })) in
+    let past = (noted_past c.args.job.now c.args.conf.now Purge c.ask.new.running c.settle.new.running c.args.log.now c.ask.new.log c.settle.new.log c.in_ok-handled.handled c.ask.ensures.log asked (record { master = c.settle.ensures.master; seats = c.settle.ensures.seats; shelves = c.settle.ensures.shelves; past = c.settle.ensures.past })) in
     (on, purge_taken c.args.job.now c.args.conf.now c.args.running.now c.args.log.now.past c.requires.holds on c.settle.new.log.past past, past)
 
 pub returns-in-Ok-clause-store : goal.returns-in-Ok-clause-store
@@ -33,7 +33,7 @@ returns-in-Ok-clause-store g c before told =
     let asked = c.in_ok-handled.ensures.asked on in
     purge_told_now c.args.job.now c.args.conf.now c.args.running.now c.args.log.now.past c.requires.holds on before c.replace-sums.result.items c.settle.new.log.past (g.S.OutputStore.store c.args.store.now) (g.S.OutputStore.store c.purge.new.self) c.in-Ok.ensures.ok
     (ap (λ v. v.items) c.replace-sums.ensures.value ∙ c.settle.ensures.sums ∙ ap (λ (n : Notes). n.sums) c.ask.ensures.notes)
-    (noted_past c.args.job.now c.args.conf.now Purge c.ask.new.running c.settle.new.running c.args.log.now c.ask.new.log c.settle.new.log c.in_ok-handled.handled c.ask.ensures.log asked (record { master = c.settle.ensures.master; desks = c.settle.ensures.desks; shelves = c.settle.ensures.shelves; past = c.settle.ensures.past })) told
+    (noted_past c.args.job.now c.args.conf.now Purge c.ask.new.running c.settle.new.running c.args.log.now c.ask.new.log c.settle.new.log c.in_ok-handled.handled c.ask.ensures.log asked (record { master = c.settle.ensures.master; seats = c.settle.ensures.seats; shelves = c.settle.ensures.shelves; past = c.settle.ensures.past })) told
 
 pub returns-in-Err-clause-taken : goal.returns-in-Err-clause-taken
 returns-in-Err-clause-taken g c =

@@ -2,7 +2,7 @@ use Rattle.std.specs.Prelude.{◌≤◌, length, is_some}
 use Rattle.std.proofs.Common.{ap, sym, ◌∙◌, subst, arith}
 use Rattle.tez_events.specs.declared.CoreEvent.TheVariants.{CommitStart}
 use Rattle.tez_history.specs.History.{Past, extend}
-use Rattle.tez_control.specs.View.{master_view}
+use Rattle.tez_master_view.specs.View.{master_view}
 use Rattle.tez_master.specs.Master.{entries_told}
 use Rattle.tez_world.specs.Holds.{parts_of, notes_of}
 use Rattle.tez_world.proofs.Taking.{is_on, went, short_later}
@@ -26,10 +26,10 @@ pub returns : goal.returns
 returns c =
     let on = is_on (master_view c.args.job.now.plan c.args.conf.now c.args.log.now.past) CommitStart c.in_ok-handled.handled c.in_ok-handled.ensures.taken (went c.in_ok-handled.handled c.in_default.not-Ignored) in
     let asked = c.in_ok-handled.ensures.asked on in
-    let past = noted_past c.args.job.now c.args.conf.now CommitStart c.ask.new.running c.settle.new.running c.args.log.now c.ask.new.log c.settle.new.log c.in_ok-handled.handled c.ask.ensures.log asked (record { master = c.settle.ensures.master; desks = c.settle.ensures.desks; shelves = c.settle.ensures.shelves; past = c.settle.ensures.past ∙ ap (λ (p : Past). extend p (entries_told c.in_ok-handled.handled)) (c.note.ensures.past ∙ c.reserve.ensures.past) }) in
+    let past = noted_past c.args.job.now c.args.conf.now CommitStart c.ask.new.running c.settle.new.running c.args.log.now c.ask.new.log c.settle.new.log c.in_ok-handled.handled c.ask.ensures.log asked (record { master = c.settle.ensures.master; seats = c.settle.ensures.seats; shelves = c.settle.ensures.shelves; past = c.settle.ensures.past ∙ ap (λ (p : Past). extend p (entries_told c.in_ok-handled.handled)) (c.note.ensures.past ∙ c.reserve.ensures.past) }) in
     record {
       taken = noted_changed c.args.job.now c.args.conf.now CommitStart c.args.running.now c.ask.new.running c.settle.new.running c.args.log.now c.ask.new.log c.settle.new.log c.in_ok-handled.handled on c.ask.ensures.parts c.ask.ensures.log asked
-          (record { master = c.settle.ensures.master; desks = c.settle.ensures.desks; shelves = c.settle.ensures.shelves; past = c.settle.ensures.past ∙ ap (λ (p : Past). extend p (entries_told c.in_ok-handled.handled)) (c.note.ensures.past ∙ c.reserve.ensures.past) })
+          (record { master = c.settle.ensures.master; seats = c.settle.ensures.seats; shelves = c.settle.ensures.shelves; past = c.settle.ensures.past ∙ ap (λ (p : Past). extend p (entries_told c.in_ok-handled.handled)) (c.note.ensures.past ∙ c.reserve.ensures.past) })
           (start_kept c.args.job.now c.args.conf.now (parts_of c.args.running.now) c.args.log.now.past c.requires.holds on (short_later c.args.job.now c.args.conf.now CommitStart c.ask.new.running c.args.log.now c.ask.new.log c.in_ok-handled.handled c.ask.ensures.log asked));
       refused_parts = tt;
       noted = start_right c.args.job.now c.args.conf.now c.args.running.now c.args.log.now.past c.settle.new.log.past (notes_of c.settle.new.running) c.requires.holds on (short_later c.args.job.now c.args.conf.now CommitStart c.ask.new.running c.args.log.now c.ask.new.log c.in_ok-handled.handled c.ask.ensures.log asked) past

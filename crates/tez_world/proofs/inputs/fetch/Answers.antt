@@ -1,8 +1,8 @@
 use Rattle.std.specs.Prelude.{length, is_some, ◌≤◌}
 use Rattle.std.proofs.Common.{ap, sym, ◌∙◌, subst}
 use Rattle.tez_events.specs.declared.CoreEvent.TheVariants.{Fetch}
-use Rattle.tez_control.specs.View.{master_view}
-use Rattle.tez_control.specs.Steady.{IsSteady}
+use Rattle.tez_master_view.specs.View.{master_view}
+use Rattle.tez_master_view.specs.Steady.{IsSteady}
 use Rattle.tez_master.specs.Master.{MasterParts, HasNumbers}
 use Rattle.tez_world.specs.declared.running.Running.{Running}
 use Rattle.tez_world.proofs.Taking.{is_on, went, changed, short_later, notes_settled}
@@ -27,10 +27,10 @@ returns c =
     let asked = c.in_ok-handled.ensures.asked on in
     record {
       taken = changed c.args.job.now c.args.conf.now (Fetch c.args.a c.args.e c.args.input) c.args.running.now c.ask.new.running c.copy_piece.new.running c.settle.new.running c.args.log.now c.ask.new.log c.settle.new.log c.in_ok-handled.handled on c.ask.ensures.parts c.ask.ensures.log asked
-          (record { kept = ap (λ (r : Running). r.master) c.in_ok-copy_piece.ensures.ok; master = c.settle.ensures.master; desks = c.settle.ensures.desks; shelves = c.settle.ensures.shelves; texts = c.settle.ensures.texts ∙ ap (λ (r : Running). r.texts.items) c.in_ok-copy_piece.ensures.ok; sums = c.settle.ensures.sums ∙ ap (λ (r : Running). r.sums.items) c.in_ok-copy_piece.ensures.ok; past = c.settle.ensures.past })
+          (record { kept = ap (λ (r : Running). r.master) c.in_ok-copy_piece.ensures.ok; master = c.settle.ensures.master; seats = c.settle.ensures.seats; shelves = c.settle.ensures.shelves; texts = c.settle.ensures.texts ∙ ap (λ (r : Running). r.texts.items) c.in_ok-copy_piece.ensures.ok; sums = c.settle.ensures.sums ∙ ap (λ (r : Running). r.sums.items) c.in_ok-copy_piece.ensures.ok; past = c.settle.ensures.past })
           (fetch_kept c.args.job.now c.args.conf.now c.args.running.now c.ask.new.running c.copy_piece.new.running c.args.log.now.past c.args.a c.args.e c.args.input c.ask.ensures.parts c.requires.holds on
           (short_later c.args.job.now c.args.conf.now (Fetch c.args.a c.args.e c.args.input) c.ask.new.running c.args.log.now c.ask.new.log c.in_ok-handled.handled c.ask.ensures.log asked)
-          (ap (λ (r : Running). r.desks) c.in_ok-copy_piece.ensures.ok) (ap (λ (r : Running). r.shelves) c.in_ok-copy_piece.ensures.ok));
+          (ap (λ (r : Running). r.seats) c.in_ok-copy_piece.ensures.ok) (ap (λ (r : Running). r.shelves) c.in_ok-copy_piece.ensures.ok));
       refused_parts = tt;
       notes = notes_settled c.args.running.now c.ask.new.running c.settle.new.running c.ask.ensures.notes (c.settle.ensures.texts ∙ ap (λ (r : Running). r.texts.items) c.in_ok-copy_piece.ensures.ok) (c.settle.ensures.sums ∙ ap (λ (r : Running). r.sums.items) c.in_ok-copy_piece.ensures.ok);
       refused_log = tt;

@@ -3,13 +3,13 @@ use Rattle.std.specs.Prelude.{IfSome}
 use Rattle.tez_vman.specs.declared.seen.Config.{Config}
 use Rattle.tez_history.specs.Shape.{edges_to}
 use Rattle.tez_assembly.specs.Order.{order_for}
-use Rattle.tez_desks.specs.Desks.{desk_at}
+use Rattle.tez_inflight.specs.Seats.{seat_at}
 use Rattle.tez_world.proofs.Sending.{numbered_back, numbered_numbers, gatherer_parts}
 use Rattle.tez_world.proofs.inputs.order_of.Goals as goal
 
 pub assemble-requires-clause-gathered : goal.assemble-requires-clause-gathered
 assemble-requires-clause-gathered c =
-    let at = gatherer_parts (desk_at c.args.running.now.desks.desks c.args.place) c.args.a c.requires.gathers in
+    let at = gatherer_parts (seat_at c.args.running.now.seats.seats c.args.place) c.args.a c.requires.gathers in
     sym (numbered_numbers c.in_ok-parts.parts.items) ∙ ap (map (λ part. part.0)) (c.in_ok-parts.ensures c.args.a at.0 at.1) ∙ c.requires.gathered at.0 at.1
 
 pub returns-in-Ok : goal.returns-in-Ok

@@ -2,8 +2,8 @@ use Rattle.std.specs.Prelude.{length, is_some, ◌≤◌, Some}
 use Rattle.std.proofs.Common.{ap, sym, ◌∙◌, subst, refl}
 use Rattle.tez_events.specs.declared.CoreEvent.TheVariants.{Send}
 use Rattle.tez_pool.specs.Table.{place_held}
-use Rattle.tez_control.specs.View.{master_view}
-use Rattle.tez_desks.specs.Desks.{order_out}
+use Rattle.tez_master_view.specs.View.{master_view}
+use Rattle.tez_inflight.specs.Seats.{order_out}
 use Rattle.tez_world.proofs.Taking.{is_on, went, changed, short_later, notes_settled}
 use Rattle.tez_world.proofs.Sending.{not_gone, due_placed, due_waits, due_numbers, due_alone, due_vertex, due_configured, due_index, due_attempt, send_kept}
 use Rattle.tez_world.proofs.inputs.send.Goals as goal
@@ -31,7 +31,7 @@ put_out-requires c =
     record {
       same = c.in_ok-given.ensures;
       waits = due_waits c.args.job.now c.args.conf.now c.args.running.now c.ask.new.running c.args.log.now.past c.args.a c.in-Some.place c.ask.ensures.parts c.requires.holds on (sym c.in-Some.ensures.place) ∙ ap Some (sym same);
-      alone = ap (order_out c.ask.new.running.desks.desks) same ∙ due_alone c.args.job.now c.args.conf.now c.args.running.now c.ask.new.running c.args.log.now.past c.args.a c.ask.ensures.parts c.requires.holds on;
+      alone = ap (order_out c.ask.new.running.seats.seats) same ∙ due_alone c.args.job.now c.args.conf.now c.args.running.now c.ask.new.running c.args.log.now.past c.args.a c.ask.ensures.parts c.requires.holds on;
     }
 
 pub settle-requires : goal.settle-requires
@@ -51,9 +51,9 @@ returns c =
     let on = is_on (master_view c.args.job.now.plan c.args.conf.now c.args.log.now.past) (Send c.args.a) c.in_ok-handled.handled c.in_ok-handled.ensures.taken (went c.in_ok-handled.handled c.in_default.not-Ignored) in
     let asked = c.in_ok-handled.ensures.asked on in
     record {
-      taken = changed c.args.job.now c.args.conf.now (Send c.args.a) c.args.running.now c.ask.new.running (record c.ask.new.running { desks = c.put_out.new.self }) c.settle.new.running c.args.log.now c.ask.new.log c.settle.new.log c.in_ok-handled.handled on c.ask.ensures.parts c.ask.ensures.log asked
-          (record { kept = refl; master = c.settle.ensures.master; desks = c.settle.ensures.desks; shelves = c.settle.ensures.shelves; texts = c.settle.ensures.texts; sums = c.settle.ensures.sums; past = c.settle.ensures.past })
-          (send_kept c.args.job.now c.args.conf.now c.args.running.now c.ask.new.running (record c.ask.new.running { desks = c.put_out.new.self }) c.args.log.now.past c.args.a c.in-Some.place c.in_ok-order.order c.ask.ensures.parts c.requires.holds on
+      taken = changed c.args.job.now c.args.conf.now (Send c.args.a) c.args.running.now c.ask.new.running (record c.ask.new.running { seats = c.put_out.new.self }) c.settle.new.running c.args.log.now c.ask.new.log c.settle.new.log c.in_ok-handled.handled on c.ask.ensures.parts c.ask.ensures.log asked
+          (record { kept = refl; master = c.settle.ensures.master; seats = c.settle.ensures.seats; shelves = c.settle.ensures.shelves; texts = c.settle.ensures.texts; sums = c.settle.ensures.sums; past = c.settle.ensures.past })
+          (send_kept c.args.job.now c.args.conf.now c.args.running.now c.ask.new.running (record c.ask.new.running { seats = c.put_out.new.self }) c.args.log.now.past c.args.a c.in-Some.place c.in_ok-order.order c.ask.ensures.parts c.requires.holds on
           (short_later c.args.job.now c.args.conf.now (Send c.args.a) c.ask.new.running c.args.log.now c.ask.new.log c.in_ok-handled.handled c.ask.ensures.log asked)
           (sym c.in-Some.ensures.place) c.in_ok-order.ensures c.put_out.ensures refl);
       refused_parts = tt;

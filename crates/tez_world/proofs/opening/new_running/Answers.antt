@@ -9,7 +9,7 @@ use Rattle.tez_pool.specs.Table.{new_pool}
 use Rattle.tez_pool.specs.State.{PoolState}
 use Rattle.tez_pool.specs.Victim.{AreIn}
 use Rattle.tez_core.specs.Fresh.{fresh}
-use Rattle.tez_desks.specs.Desks.{Vacant, DesksState}
+use Rattle.tez_inflight.specs.Seats.{Vacant, SeatsState}
 use Rattle.tez_world.proofs.Openings.{new_within, begun_parts}
 use Rattle.tez_world.proofs.opening.new_running.Goals as goal
 
@@ -27,10 +27,10 @@ pub returns-clause-holds : goal.returns-clause-holds
 returns-clause-holds c =
     let values = c.values-values.ensures.same in
     let plan = c.in_ok-plan.ensures ∙ c.plan.ensures in
-    begun_parts c.args.job.now c.args.conf.now (record { master = c.in_ok-first_master.field-0; desks = c.in_ok-new.field-0; shelves = c.new-3.result; texts = c.in_ok-texts.texts; sums = c.new-4.result })
+    begun_parts c.args.job.now c.args.conf.now (record { master = c.in_ok-first_master.field-0; seats = c.in_ok-new.field-0; shelves = c.new-3.result; texts = c.in_ok-texts.texts; sums = c.new-4.result })
     (subst IsValid c.plan-2.ensures c.vertices.ensures.valid)
     (subst IsInRanges c.plan-2.ensures c.vertices.ensures.in_ranges)
     (subst IsInRange values c.values-values.ensures.in_range)
     (c.in_ok-first_master.ensures ∙ ap (λ (g : Dag). fresh g c.args.conf.now 1 c.in_ok-pool.pool) plan ∙ ap (fresh c.args.job.now.plan c.args.conf.now 1) (c.in_ok-pool.ensures ∙ ap (λ (v : ConfValues). new_pool v.nodes v.per_node v.reuse) values))
-    (ap (λ (d : DesksState). d.desks) c.in_ok-new.ensures ∙ ap (λ (v : ConfValues). replicate (v.nodes * v.per_node) Vacant) values)
+    (ap (λ (d : SeatsState). d.seats) c.in_ok-new.ensures ∙ ap (λ (v : ConfValues). replicate (v.nodes * v.per_node) Vacant) values)
     c.new-3.ensures

@@ -1,8 +1,8 @@
 use Rattle.std.specs.Prelude.{length, is_some, ◌≤◌, Some, None}
 use Rattle.std.proofs.Common.{◌≡◌, ap, sym, ◌∙◌, subst}
 use Rattle.tez_events.specs.declared.CoreEvent.TheVariants.{Fail}
-use Rattle.tez_control.specs.View.{master_view}
-use Rattle.tez_control.specs.Steady.{IsSteady}
+use Rattle.tez_master_view.specs.View.{master_view}
+use Rattle.tez_master_view.specs.Steady.{IsSteady}
 use Rattle.tez_master.specs.Master.{MasterParts, HasNumbers, spent_in}
 use Rattle.tez_world.proofs.Taking.{is_on, went, notes_settled}
 use Rattle.tez_world.proofs.Failing.{failed, spent}
@@ -30,7 +30,7 @@ returns-in-Some c =
     let this : spent_in c.args.running.now.master.state (Fail c.args.a) ≡ Some c.in-Some.t = cc in
     record {
       taken = spent c.args.job.now c.args.conf.now c.args.a c.in-Some.t c.args.running.now c.ask.new.running c.leave.new.running c.settle.new.running c.args.log.now c.ask.new.log c.settle.new.log c.in_ok-handled.handled c.requires.holds on this c.ask.ensures.log asked
-          (record { kept = c.leave.ensures.master; master = c.settle.ensures.master; desks = c.settle.ensures.desks; shelves = c.settle.ensures.shelves; texts = c.settle.ensures.texts ∙ ap (λ v. v.items) c.leave.ensures.texts; sums = c.settle.ensures.sums ∙ ap (λ v. v.items) c.leave.ensures.sums; past = c.settle.ensures.past });
+          (record { kept = c.leave.ensures.master; master = c.settle.ensures.master; seats = c.settle.ensures.seats; shelves = c.settle.ensures.shelves; texts = c.settle.ensures.texts ∙ ap (λ v. v.items) c.leave.ensures.texts; sums = c.settle.ensures.sums ∙ ap (λ v. v.items) c.leave.ensures.sums; past = c.settle.ensures.past });
       refused_parts = tt;
       notes = notes_settled c.args.running.now c.ask.new.running c.settle.new.running c.ask.ensures.notes (c.settle.ensures.texts ∙ ap (λ v. v.items) c.leave.ensures.texts) (c.settle.ensures.sums ∙ ap (λ v. v.items) c.leave.ensures.sums);
       refused_log = tt;
@@ -46,8 +46,8 @@ returns-in-None c =
     let this : spent_in c.args.running.now.master.state (Fail c.args.a) ≡ None = cc in
     record {
       taken = failed c.args.job.now c.args.conf.now c.args.a c.args.running.now c.ask.new.running c.leave.new.running c.settle.new.running c.args.log.now c.ask.new.log c.settle.new.log c.in_ok-handled.handled c.requires.holds on this c.ask.ensures.parts c.ask.ensures.log asked
-          (record { kept = c.leave.ensures.master; master = c.settle.ensures.master; desks = c.settle.ensures.desks; shelves = c.settle.ensures.shelves; texts = c.settle.ensures.texts ∙ ap (λ v. v.items) c.leave.ensures.texts; sums = c.settle.ensures.sums ∙ ap (λ v. v.items) c.leave.ensures.sums; past = c.settle.ensures.past })
-          c.leave.ensures.desks c.leave.ensures.shelves;
+          (record { kept = c.leave.ensures.master; master = c.settle.ensures.master; seats = c.settle.ensures.seats; shelves = c.settle.ensures.shelves; texts = c.settle.ensures.texts ∙ ap (λ v. v.items) c.leave.ensures.texts; sums = c.settle.ensures.sums ∙ ap (λ v. v.items) c.leave.ensures.sums; past = c.settle.ensures.past })
+          c.leave.ensures.seats c.leave.ensures.shelves;
       refused_parts = tt;
       notes = notes_settled c.args.running.now c.ask.new.running c.settle.new.running c.ask.ensures.notes (c.settle.ensures.texts ∙ ap (λ v. v.items) c.leave.ensures.texts) (c.settle.ensures.sums ∙ ap (λ v. v.items) c.leave.ensures.sums);
       refused_log = tt;

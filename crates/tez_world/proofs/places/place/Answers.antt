@@ -3,7 +3,7 @@ use Rattle.std.proofs.Common.{ap, sym, ◌∙◌, subst, refl}
 use Rattle.tez_plan.specs.Dag.{edge}
 use Rattle.tez_events.specs.declared.CoreEvent.TheVariants.{Place}
 use Rattle.tez_history.specs.Shape.{edges_to}
-use Rattle.tez_control.specs.View.{master_view}
+use Rattle.tez_master_view.specs.View.{master_view}
 use Rattle.tez_world.proofs.Taking.{is_on, went, changed, short_later, notes_settled}
 use Rattle.tez_world.proofs.Events.{seat_free, edges_in_differ, place_kept}
 use Rattle.tez_world.proofs.places.place.Goals as goal
@@ -34,9 +34,9 @@ returns c =
     let on = is_on (master_view c.args.job.now.plan c.args.conf.now c.args.log.now.past) (Place c.args.a c.args.place) c.in_ok-handled.handled c.in_ok-handled.ensures.taken (went c.in_ok-handled.handled c.in_default.not-Ignored) in
     let asked = c.in_ok-handled.ensures.asked on in
     record {
-      taken = changed c.args.job.now c.args.conf.now (Place c.args.a c.args.place) c.args.running.now c.ask.new.running (record c.ask.new.running { desks = c.seat.new.self }) c.settle.new.running c.args.log.now c.ask.new.log c.settle.new.log c.in_ok-handled.handled on c.ask.ensures.parts c.ask.ensures.log asked
-          (record { kept = refl; master = c.settle.ensures.master; desks = c.settle.ensures.desks; shelves = c.settle.ensures.shelves; texts = c.settle.ensures.texts; sums = c.settle.ensures.sums; past = c.settle.ensures.past })
-          (place_kept c.args.job.now c.args.conf.now c.args.running.now c.ask.new.running (record c.ask.new.running { desks = c.seat.new.self }) c.args.log.now.past c.args.a c.args.place c.as_slice.result.now c.ask.ensures.parts c.requires.holds on
+      taken = changed c.args.job.now c.args.conf.now (Place c.args.a c.args.place) c.args.running.now c.ask.new.running (record c.ask.new.running { seats = c.seat.new.self }) c.settle.new.running c.args.log.now c.ask.new.log c.settle.new.log c.in_ok-handled.handled on c.ask.ensures.parts c.ask.ensures.log asked
+          (record { kept = refl; master = c.settle.ensures.master; seats = c.settle.ensures.seats; shelves = c.settle.ensures.shelves; texts = c.settle.ensures.texts; sums = c.settle.ensures.sums; past = c.settle.ensures.past })
+          (place_kept c.args.job.now c.args.conf.now c.args.running.now c.ask.new.running (record c.ask.new.running { seats = c.seat.new.self }) c.args.log.now.past c.args.a c.args.place c.as_slice.result.now c.ask.ensures.parts c.requires.holds on
           (short_later c.args.job.now c.args.conf.now (Place c.args.a c.args.place) c.ask.new.running c.args.log.now c.ask.new.log c.in_ok-handled.handled c.ask.ensures.log asked)
           (c.as_slice.ensures.value ∙ c.in_ok-edges.ensures ∙ ap (λ g. map (λ e. edge e.0) (edges_to g c.args.a.task.vertex.0)) c.plan.ensures) c.in_ok-seat.ensures refl);
       refused_parts = tt;

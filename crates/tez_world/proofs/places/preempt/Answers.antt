@@ -1,8 +1,8 @@
 use Rattle.std.specs.Prelude.{length, is_some, ◌≤◌}
 use Rattle.std.proofs.Common.{ap, sym, ◌∙◌, subst}
 use Rattle.tez_events.specs.declared.CoreEvent.TheVariants.{Preempt}
-use Rattle.tez_control.specs.View.{master_view}
-use Rattle.tez_control.specs.Steady.{IsSteady}
+use Rattle.tez_master_view.specs.View.{master_view}
+use Rattle.tez_master_view.specs.Steady.{IsSteady}
 use Rattle.tez_master.specs.Master.{MasterParts, HasNumbers}
 use Rattle.tez_world.proofs.Taking.{is_on, went, changed, short_later, notes_settled}
 use Rattle.tez_world.proofs.Events.{preempt_kept}
@@ -26,10 +26,10 @@ returns c =
     let asked = c.in_ok-handled.ensures.asked on in
     record {
       taken = changed c.args.job.now c.args.conf.now (Preempt c.args.a) c.args.running.now c.ask.new.running c.leave.new.running c.settle.new.running c.args.log.now c.ask.new.log c.settle.new.log c.in_ok-handled.handled on c.ask.ensures.parts c.ask.ensures.log asked
-          (record { kept = c.leave.ensures.master; master = c.settle.ensures.master; desks = c.settle.ensures.desks; shelves = c.settle.ensures.shelves; texts = c.settle.ensures.texts ∙ ap (λ v. v.items) c.leave.ensures.texts; sums = c.settle.ensures.sums ∙ ap (λ v. v.items) c.leave.ensures.sums; past = c.settle.ensures.past })
+          (record { kept = c.leave.ensures.master; master = c.settle.ensures.master; seats = c.settle.ensures.seats; shelves = c.settle.ensures.shelves; texts = c.settle.ensures.texts ∙ ap (λ v. v.items) c.leave.ensures.texts; sums = c.settle.ensures.sums ∙ ap (λ v. v.items) c.leave.ensures.sums; past = c.settle.ensures.past })
           (preempt_kept c.args.job.now c.args.conf.now c.args.running.now c.ask.new.running c.leave.new.running c.args.log.now.past c.args.a c.ask.ensures.parts c.requires.holds on
           (short_later c.args.job.now c.args.conf.now (Preempt c.args.a) c.ask.new.running c.args.log.now c.ask.new.log c.in_ok-handled.handled c.ask.ensures.log asked)
-          c.leave.ensures.desks c.leave.ensures.shelves);
+          c.leave.ensures.seats c.leave.ensures.shelves);
       refused_parts = tt;
       notes = notes_settled c.args.running.now c.ask.new.running c.settle.new.running c.ask.ensures.notes (c.settle.ensures.texts ∙ ap (λ v. v.items) c.leave.ensures.texts) (c.settle.ensures.sums ∙ ap (λ v. v.items) c.leave.ensures.sums);
       refused_log = tt;

@@ -1,6 +1,6 @@
 use Rattle.std.specs.Prelude.{length, is_some, ◌≤◌}
 use Rattle.std.proofs.Common.{ap, sym, refl, subst}
-use Rattle.tez_control.specs.View.{master_view}
+use Rattle.tez_master_view.specs.View.{master_view}
 use Rattle.tez_world.proofs.Taking.{is_on, went, changed, short_later, notes_settled}
 use Rattle.tez_world.proofs.Events.{quiet_kept}
 use Rattle.tez_world.proofs.plain.take_plain.Goals as goal
@@ -23,7 +23,7 @@ returns c =
     let asked = c.in_ok-handled.ensures.asked on in
     record {
       taken = changed c.args.job.now c.args.conf.now c.args.e c.args.running.now c.ask.new.running c.ask.new.running c.settle.new.running c.args.log.now c.ask.new.log c.settle.new.log c.in_ok-handled.handled on c.ask.ensures.parts c.ask.ensures.log asked
-          (record { kept = refl; master = c.settle.ensures.master; desks = c.settle.ensures.desks; shelves = c.settle.ensures.shelves; texts = c.settle.ensures.texts; sums = c.settle.ensures.sums; past = c.settle.ensures.past })
+          (record { kept = refl; master = c.settle.ensures.master; seats = c.settle.ensures.seats; shelves = c.settle.ensures.shelves; texts = c.settle.ensures.texts; sums = c.settle.ensures.sums; past = c.settle.ensures.past })
           (quiet_kept c.args.job.now c.args.conf.now c.args.running.now c.ask.new.running c.args.log.now.past c.args.e c.ask.ensures.parts c.requires.plain c.requires.holds on
           (short_later c.args.job.now c.args.conf.now c.args.e c.ask.new.running c.args.log.now c.ask.new.log c.in_ok-handled.handled c.ask.ensures.log asked));
       refused_parts = tt;

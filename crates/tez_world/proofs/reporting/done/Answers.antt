@@ -7,14 +7,14 @@ use Rattle.tez_history.specs.History.{Past, extend}
 use Rattle.tez_history.specs.Steps.{done_entries}
 use Rattle.tez_shelves.specs.Piece.{bytes_on}
 use Rattle.tez_shelves.specs.Shelf.{shelf}
-use Rattle.tez_desks.specs.Desks.{DesksState}
-use Rattle.tez_control.specs.State.{MasterState}
-use Rattle.tez_control.specs.Settled.{after_done}
-use Rattle.tez_control.specs.Laws.{bytes_of}
-use Rattle.tez_keeping.specs.Keeping.{most_entries}
-use Rattle.tez_keeping.specs.Reports.{made_for}
+use Rattle.tez_inflight.specs.Seats.{SeatsState}
+use Rattle.tez_master_view.specs.State.{MasterState}
+use Rattle.tez_master_view.specs.Settled.{after_done}
+use Rattle.tez_master_view.specs.Laws.{bytes_of}
+use Rattle.tez_world_invariant.specs.Keeping.{most_entries}
+use Rattle.tez_world_invariant.specs.Reports.{made_for}
 use Rattle.tez_master.specs.Master.{Reported, MasterParts, HasNumbers, entries_told}
-use Rattle.tez_control.specs.Steady.{IsSteady}
+use Rattle.tez_master_view.specs.Steady.{IsSteady}
 use Rattle.tez_world.specs.World.{Notes, Stands}
 use Rattle.tez_world.specs.Holds.{notes_of}
 use Rattle.tez_world.specs.Reporting.{staged_for}
@@ -71,7 +71,7 @@ returns-clause-taken g c =
       done_holds c.args.job.now c.args.conf.now c.args.running.now c.args.log.now.past c.args.at c.args.value.now c.args.pieces c.requires.holds c.requires.works c.requires.due c.settle.new.running c.settle.new.log.past bytes
           (record {
             master = ap (λ (m : MasterParts). m.state) (c.settle.ensures.master (Reported a bytes) pend) ∙ ap (λ (m : MasterState). after_done m a bytes) c.done.ensures.same;
-            desks = ap (λ (d : DesksState). d.desks) (c.settle.ensures.desks ∙ c.leave.ensures);
+            seats = ap (λ (d : SeatsState). d.seats) (c.settle.ensures.seats ∙ c.leave.ensures);
             shelves = λ b. ap (shelf b) c.settle.ensures.shelves ∙ on_ok c.put.result _ (sym c.is_err.ensures.value ∙ c.if-is_err.false) c.put.ensures.there b;
             next = next;
             short = short;

@@ -1,6 +1,6 @@
 use Rattle.std.proofs.Common.{◌∙◌, ap, sym, subst, slice_index_or, take}
 use Rattle.std.proofs.lemmas.List.Sums.{fold_more}
-use Rattle.tez_control.specs.State.{MasterState}
+use Rattle.tez_master_view.specs.State.{MasterState}
 use Rattle.tez_vertex_view.specs.View.{AreRestorable}
 use Rattle.tez_recovery.specs.Recovery.{carried}
 use Rattle.tez_lead.proofs.Taken.{next_carried, carried_limits, carried_places}

@@ -1,5 +1,5 @@
 use Rattle.std.proofs.Common.{sym, subst}
-use Rattle.tez_control.specs.State.{MasterState}
+use Rattle.tez_master_view.specs.State.{MasterState}
 use Rattle.tez_recovery.specs.Recovery.{CanBeCarried}
 use Rattle.tez_lead.proofs.Steps.{kept_after}
 use Rattle.tez_lead.proofs.Taken.{carried_steps}

@@ -1,5 +1,5 @@
 use Rattle.std.proofs.Common.{◌≡◌, ◌∙◌, ap, sym, subst, take}
-use Rattle.tez_control.specs.State.{MasterState}
+use Rattle.tez_master_view.specs.State.{MasterState}
 use Rattle.tez_recovery.specs.Recovery.{CanBeKept}
 use Rattle.tez_lead.proofs.Taken.{next_kept, kept_places}
 use Rattle.tez_lead.proofs.parts.Lead.keep_all.Goals as goal

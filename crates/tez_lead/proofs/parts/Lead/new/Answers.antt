@@ -1,5 +1,5 @@
 use Rattle.std.proofs.Common.{sym, subst}
-use Rattle.tez_control.specs.State.{MasterState}
+use Rattle.tez_master_view.specs.State.{MasterState}
 use Rattle.tez_vertex_view.specs.View.{AreRestorable}
 use Rattle.tez_vertex_view.proofs.Fresh.{new_fresh}
 use Rattle.tez_lead.proofs.Beginning.{new_kept}

@@ -1,5 +1,5 @@
 use Rattle.std.proofs.Common.{◌∙◌, ap, sym, subst}
-use Rattle.tez_control.specs.State.{MasterState}
+use Rattle.tez_master_view.specs.State.{MasterState}
 use Rattle.tez_schedule.specs.Table.{can_configure}
 use Rattle.tez_recovery.specs.Recovery.{config_in}
 use Rattle.tez_lead.specs.Kept.{IsKept}

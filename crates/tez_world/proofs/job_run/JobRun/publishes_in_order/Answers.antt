@@ -1,7 +1,7 @@
 use Rattle.std.specs.Prelude.{◌≢◌}
 use Rattle.std.proofs.Common.{subst}
 use Rattle.tez_ports.specs.Content.{Named, Store}
-use Rattle.tez_keeping.specs.Store.{HasPublished}
+use Rattle.tez_world_invariant.specs.Store.{HasPublished}
 use Rattle.tez_world.specs.World.{RunParts, Over, Stands}
 use Rattle.tez_world.proofs.RunLaws.{in_order}
 use Rattle.tez_world.proofs.job_run.JobRun.publishes_in_order.Goals as goal

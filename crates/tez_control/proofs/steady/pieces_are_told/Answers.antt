@@ -1,8 +1,0 @@
-use Rattle.tez_control.proofs.Pieces.{output_told, piece_told}
-use Rattle.tez_control.proofs.steady.pieces_are_told.Goals as goal
-
-pub returns : goal.returns
-returns c = record {
-  output = output_told;
-  piece = piece_told;
-}

@@ -1,9 +1,0 @@
-use Rattle.std.proofs.Common.{is_ok, arith}
-use Rattle.tez_desks.proofs.QueueLemmas.{desk_gathered, none_gathered}
-use Rattle.tez_desks.proofs.desks.gather_at.Goals as goal
-
-pub returns-then-place-len : goal.returns-then-place-len
-returns-then-place-len c = desk_gathered (is_ok c.gather.result) c.args.desks.now.items c.args.place c.index_mut.result.now _ c.args.edge.0 c.args.piece.now (omega arith) c.index_mut.ensures.value c.gather.ensures
-
-pub returns : goal.returns
-returns c = none_gathered c.args.desks.now.items c.args.place c.args.edge.0 c.args.piece.now (omega arith)

@@ -1,8 +1,0 @@
-use Rattle.tez_desks.proofs.PlaceLemmas.{found_at, none_out}
-use Rattle.tez_desks.proofs.orders_lie_at_desks.Goals as goal
-
-pub returns-clause-there : goal.returns-clause-there
-returns-clause-there c = found_at
-
-pub returns-clause-none : goal.returns-clause-none
-returns-clause-none c = none_out

@@ -1,5 +1,0 @@
-use Rattle.tez_holdings.proofs.Copies.{gathered_is_copied}
-use Rattle.tez_holdings.proofs.gathering.what_is_gathered_is_copied.Goals as goal
-
-pub returns : goal.returns
-returns c = gathered_is_copied

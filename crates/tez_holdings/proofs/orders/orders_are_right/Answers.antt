@@ -1,5 +1,0 @@
-use Rattle.tez_holdings.proofs.OrderLaws.{order_value, order_bad}
-use Rattle.tez_holdings.proofs.orders.orders_are_right.Goals as goal
-
-pub returns : goal.returns
-returns c = record { value = order_value; bad = order_bad }

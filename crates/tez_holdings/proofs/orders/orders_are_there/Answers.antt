@@ -1,5 +1,0 @@
-use Rattle.tez_holdings.proofs.OrderLemmas.{order_there}
-use Rattle.tez_holdings.proofs.orders.orders_are_there.Goals as goal
-
-pub returns : goal.returns
-returns c = order_there

@@ -1,5 +1,0 @@
-use Rattle.tez_keeping.proofs.EndsCommit.{sums_noted, start_holds}
-use Rattle.tez_keeping.proofs.commit.commit_has_the_sums.Goals as goal
-
-pub returns : goal.returns
-returns c = record { sums = sums_noted; holds = start_holds }

@@ -1,5 +1,0 @@
-use Rattle.tez_keeping.proofs.EndsCommit.{publish_name}
-use Rattle.tez_keeping.proofs.commit.published_sinks_are_named.Goals as goal
-
-pub returns : goal.returns
-returns c = publish_name

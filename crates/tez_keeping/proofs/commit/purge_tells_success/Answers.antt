@@ -1,5 +1,0 @@
-use Rattle.tez_keeping.proofs.EndsCommit.{purged_succeeds}
-use Rattle.tez_keeping.proofs.commit.purge_tells_success.Goals as goal
-
-pub returns : goal.returns
-returns c = purged_succeeds

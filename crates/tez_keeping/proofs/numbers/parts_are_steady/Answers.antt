@@ -1,5 +1,0 @@
-use Rattle.tez_keeping.proofs.PartsNumbers.{parts_steady}
-use Rattle.tez_keeping.proofs.numbers.parts_are_steady.Goals as goal
-
-pub returns : goal.returns
-returns c = parts_steady

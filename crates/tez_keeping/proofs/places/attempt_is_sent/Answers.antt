@@ -1,5 +1,0 @@
-use Rattle.tez_keeping.proofs.PartsPlaces.{send_keeps}
-use Rattle.tez_keeping.proofs.places.attempt_is_sent.Goals as goal
-
-pub returns : goal.returns
-returns c = send_keeps

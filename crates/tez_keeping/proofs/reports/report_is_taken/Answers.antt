@@ -1,5 +1,0 @@
-use Rattle.tez_keeping.proofs.EndsReports.{made_right, report_holds}
-use Rattle.tez_keeping.proofs.reports.report_is_taken.Goals as goal
-
-pub returns : goal.returns
-returns c = record { bytes = made_right; holds = report_holds }

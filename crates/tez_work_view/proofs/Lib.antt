@@ -1,0 +1,11 @@
+pub mod Counting
+pub mod Fetched
+pub mod Copies
+pub mod EntryKinds
+pub mod Lying
+pub mod Shelving
+pub mod SeatSteps
+pub mod Seating
+pub mod OrderLemmas
+pub mod PieceLemmas
+pub mod OrderLaws

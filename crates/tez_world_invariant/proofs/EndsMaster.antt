@@ -1,0 +1,44 @@
+-- What a master whose parts hold tells of the history.
+--     is_enabled       an event that it may take is enabled
+--     runs_now         an attempt that it says is processing is so
+use Rattle.std.specs.Prelude.{◌≡◌, true}
+use Rattle.std.proofs.Common.{sym, ◌∙◌, subst}
+use Rattle.tez_ids.specs.declared.AttemptId.{AttemptId}
+use Rattle.tez_conf.specs.declared.values.ConfValues.{ConfValues}
+use Rattle.tez_events.specs.declared.CoreEvent.{CoreEvent}
+use Rattle.tez_events.specs.declared.CoreEvent.TheVariants.{Open, Configure, Queue, Place, Fetch, Send, Preempt, Fail, LoseNode, LoseOutput, Restart, Ready, CommitStart, Publish, Finish, Purge}
+use Rattle.tez_meaning.specs.Jobs.{Job}
+use Rattle.tez_history.specs.History.{Past, stage}
+use Rattle.tez_history.specs.Derived.{is_processing}
+use Rattle.tez_history.specs.Steps.{enabled}
+use Rattle.tez_master_view.specs.Enabled.{enabled_in}
+use Rattle.tez_master_view.specs.Read.{processes}
+use Rattle.tez_master_view.specs.Laws.{IsMasters}
+use Rattle.tez_master_view.proofs.Takes.{takes}
+use Rattle.tez_master_view.proofs.TaskReadings.{processes_read}
+use Rattle.tez_sinks.specs.Sinks.{IsOfNoSink}
+use Rattle.tez_world_invariant.specs.Keeping.{Parts, Holds}
+
+pub is_enabled : (job : Job) (c : ConfValues) (ps : Parts) (past : Past) (e : CoreEvent) → Holds job c ps past → IsMasters e → enabled_in ps.master e ≡ true → enabled job.plan c past e ≡ true
+is_enabled job c ps past e h is on = sym (takes job.plan c past e h.goes h.up is) ∙ subst (λ m. enabled_in m e ≡ true) h.master on
+
+pub runs_now : (job : Job) (c : ConfValues) (ps : Parts) (past : Past) (a : AttemptId) → Holds job c ps past → processes ps.master a ≡ true → is_processing (stage a past) ≡ true
+runs_now job c ps past a h on = sym (processes_read job.plan c past a h.goes.sound.made) ∙ subst (λ m. processes m a ≡ true) h.master on
+
+pub no_sink_masters : (e : CoreEvent) → IsOfNoSink e → IsMasters e
+no_sink_masters Open h = absurd h
+no_sink_masters (Configure v) h = tt
+no_sink_masters (Queue t) h = tt
+no_sink_masters (Place a p) h = tt
+no_sink_masters (Fetch a e i) h = tt
+no_sink_masters (Send a) h = tt
+no_sink_masters (Preempt a) h = tt
+no_sink_masters (Fail a) h = tt
+no_sink_masters (LoseNode slot) h = tt
+no_sink_masters (LoseOutput t) h = tt
+no_sink_masters Restart h = absurd h
+no_sink_masters (Ready v) h = absurd h
+no_sink_masters CommitStart h = tt
+no_sink_masters (Publish v) h = absurd h
+no_sink_masters Finish h = tt
+no_sink_masters Purge h = absurd h
