@@ -77,7 +77,7 @@ impl EdgeManager for Manager {
 
     ghost covered = { elim [
       | manager.OneToOne m ↦ one_to_one_covered m.tasks
-      | manager.Broadcast m ↦ broadcast_covered m.sources m.consumers
+      | manager.Broadcast m ↦ broadcast_covered m.sources m.consumers m.somewhere
       | manager.ScatterGather m ↦ scatter_gather_covered m.sources m.parts m.base m.based
     ] };
 }

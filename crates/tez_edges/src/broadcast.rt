@@ -52,5 +52,5 @@ impl EdgeManager for Broadcast {
 
     ghost inside = { λ s. broadcast_inside s.sources s.consumers };
 
-    ghost covered = { λ s. broadcast_covered s.sources s.consumers };
+    ghost covered = { λ s. broadcast_covered s.sources s.consumers s.somewhere };
 }

@@ -43,6 +43,6 @@ pub trait EdgeManager {
     /// Each input is an output that is there.
     ghost inside: { (s : Self) → StaysInside (table s) };
 
-    /// Each output is one input of exactly one consumer, or each is one input of every consumer.
+    /// Each output is an input of some consumer, and of none twice.
     ghost covered: { (s : Self) → IsCovered (table s) };
 }

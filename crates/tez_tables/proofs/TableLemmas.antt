@@ -12,7 +12,6 @@ use Rattle.tez_lists.proofs.Sums.{sum_by-ext}
 use Rattle.tez_lists.proofs.Ranges.{one_in_range}
 use Rattle.tez_shrink.specs.Formulas.{tasks_of, first_of, end_of}
 use Rattle.tez_shrink.proofs.RangeLemmas.{range_is_quotient, tasks_enough}
-use Rattle.std.proofs.Common.{inl, inr}
 use Rattle.tez_tables.specs.Table.{Table, route, StaysInside, HasOneConsumer, ReachesEachConsumer, IsCovered, one_to_one, broadcast, scatter_gather}
 
 -- the numbers below n that are v
@@ -168,11 +167,45 @@ scatter_gather_inside sources parts base = record {
 
 -- ---- each output is covered
 
-pub one_to_one_covered : (tasks : ℕ) → IsCovered (one_to_one tasks)
-one_to_one_covered tasks = inl (one_to_one_law tasks)
+some_of_one : (t : Table) → HasOneConsumer t → IsCovered t
+some_of_one t one = record {
+  some = λ s o a b. omega (arith, one s o a b);
+  once = λ s o c a b. let few = filter_few (λ slot. slot.0 == c) (route t s o) in let long = one s o a b in omega arith;
+}
+  where
+    filter_few : {X : Type 0} (q : X → Bool) (xs : List X) → length (filter q xs) ≤ length xs
+    filter_few q [] = omega arith
+    filter_few q (x ∷ xs) = cases (q x)
+        (λ e. rw e (let few = filter_few q xs in omega arith))
+        (λ e. rw e (let few = filter_few q xs in omega arith))
 
-pub broadcast_covered : (sources consumers : ℕ) → IsCovered (broadcast sources consumers)
-broadcast_covered sources consumers = inr (broadcast_law sources consumers)
+-- a number stands in a range at most once
+once_in_range : (c a n : ℕ) → length (filter (λ p. p == c) (range_with_len a n)) ≤ 1
+once_in_range c a zero = omega arith
+once_in_range c a (suc n) = cases (a == c)
+    (λ e. rw e (let none = ap length (none_left c (a + 1) n (omega (arith, eqb-true a c e))) in omega arith))
+    (λ e. rw e (once_in_range c (a + 1) n))
+
+some_of_each : (t : Table) → 0 < t.consumers → ReachesEachConsumer t → IsCovered t
+some_of_each t there each = record {
+  some = λ s o a b.
+      let long = sym (length-map (λ (slot : ℕ × ℕ). slot.0) (route t s o)) ∙ ap length (each s o a b) ∙ range_long 0 t.consumers in omega arith;
+  once = λ s o c a b.
+      let same = sym (length-map (λ (slot : ℕ × ℕ). slot.0) (filter (λ slot. slot.0 == c) (route t s o)))
+      ∙ ap length (sym (filter-map (λ (slot : ℕ × ℕ). slot.0) (λ p. p == c) (route t s o)))
+      ∙ ap (λ xs. length (filter (λ p. p == c) xs)) (each s o a b) in
+      let once = once_in_range c 0 t.consumers in omega arith;
+}
+  where
+    range_long : (a n : ℕ) → length (range_with_len a n) ≡ n
+    range_long a zero = refl
+    range_long a (suc n) = ap suc (range_long (a + 1) n)
+
+pub one_to_one_covered : (tasks : ℕ) → IsCovered (one_to_one tasks)
+one_to_one_covered tasks = some_of_one (one_to_one tasks) (one_to_one_law tasks)
+
+pub broadcast_covered : (sources consumers : ℕ) → 0 < consumers → IsCovered (broadcast sources consumers)
+broadcast_covered sources consumers there = some_of_each (broadcast sources consumers) there (broadcast_law sources consumers)
 
 pub scatter_gather_covered : (sources parts base : ℕ) → 0 < base → IsCovered (scatter_gather sources parts base)
-scatter_gather_covered sources parts base some = inl (scatter_gather_law sources parts base some)
+scatter_gather_covered sources parts base some = some_of_one (scatter_gather sources parts base) (scatter_gather_law sources parts base some)

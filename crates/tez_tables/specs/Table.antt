@@ -4,9 +4,9 @@
 --     StaysInside t               each slot leads to an output that is there
 --     HasOneConsumer t            each output is the input of exactly one consumer, once
 --     ReachesEachConsumer t       each output is the input of every consumer, once
---     IsCovered t                 one of the two
+--     IsCovered t                 each output is an input of some consumer, and of none twice
 --     one_to_one, broadcast, scatter_gather      the three tables
-use Rattle.std.specs.Prelude.{◌≡◌, ◌⊎◌, ℕ, ◌+◌, ◌-◌, ◌*◌, ◌/◌, ◌%◌, ◌<◌, ◌==◌, ◌&&◌, List, map, length}
+use Rattle.std.specs.Prelude.{◌≡◌, ℕ, ◌+◌, ◌-◌, ◌*◌, ◌/◌, ◌%◌, ◌<◌, ◌≤◌, ◌==◌, ◌&&◌, List, map, length}
 use Rattle.std.specs.List.{filter, flat_map, range_with_len}
 use Rattle.tez_shrink.specs.Formulas.{tasks_of, first_of, end_of}
 
@@ -33,8 +33,10 @@ HasOneConsumer t = (s o : ℕ) → s < t.sources → o < t.outputs_of s → leng
 abbrev pub ReachesEachConsumer : Table → Type 0
 ReachesEachConsumer t = (s o : ℕ) → s < t.sources → o < t.outputs_of s → map (λ slot. slot.0) (route t s o) ≡ range_with_len 0 t.consumers
 
-abbrev pub IsCovered : Table → Type 0
-IsCovered t = HasOneConsumer t ⊎ ReachesEachConsumer t
+-- what every edge manager keeps, also those of which neither of the two is true
+pub record IsCovered (t : Table) : Type 0 where
+  pub some : (s o : ℕ) → s < t.sources → o < t.outputs_of s → 0 < length (route t s o)
+  pub once : (s o c : ℕ) → s < t.sources → o < t.outputs_of s → length (filter (λ slot. slot.0 == c) (route t s o)) ≤ 1
 
 abbrev pub one_to_one : ℕ → Table
 one_to_one tasks = record { sources = tasks; consumers = tasks; inputs_of = λ c. 1; outputs_of = λ s. 1; leads = λ c i. (c, 0) }
