@@ -74,7 +74,7 @@ bad job v = option_map_or (λ s. is_bad s.head s.steps (inputs_of job v s (value
 abbrev pub IsDefined : Job → Type 0
 IsDefined job = (v : ℕ) → IsFalse (bad job v)
 
--- the first bad vertex in the order of the vertices
+-- the first bad vertex in the order of `topo`
 abbrev pub first_bad_vertex : Job → Option ℕ
 first_bad_vertex job = find (bad job) (topo job.plan)
 

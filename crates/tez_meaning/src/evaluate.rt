@@ -12,8 +12,8 @@ use tez_plain::{PlainFault, evaluate};
 use tez_plan::{VertexSpec, topo};
 use tez_record::{Records, bag_text};
 
-/// The text of each sink, in the order of vertices, or the first vertex in the order of the plan
-/// that meets a bad record. It keeps the bag of every vertex until the end, and copies a bag once
+/// The text of each sink, in the order of vertices, or the first vertex in the order of `topo` that
+/// meets a bad record. It keeps the bag of every vertex until the end, and copies a bag once
 /// for each edge that it goes along; beside that it costs what `evaluate` costs at each vertex.
 pub fn meaning(alloc: Global, job: &Job) -> Result<Vec<(Name, Bytes)>, MeaningFault>
     ensures texts { IfOk result (λ texts. texts.items ≡ sink_texts job.now) }

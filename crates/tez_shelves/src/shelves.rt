@@ -84,7 +84,8 @@ impl Shelves {
     }
 
     /// A piece of an attempt, lent without copying: the first of this output on this edge, and none
-    /// exactly where there is none. Linear in the number of the attempt's pieces.
+    /// exactly where there is none. Logarithmic in the number of attempts and, where the piece is there
+    /// and its attempt's were pushed in order, in the number of these; else linear in the latter.
     pub fn piece(&self, a: AttemptId, e: EdgeId, output: u32) -> Option<Piece<'_>>
         ensures { result ≡ piece_of self.now a e output }
     {
