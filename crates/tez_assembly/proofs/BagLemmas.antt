@@ -1,5 +1,4 @@
 -- An order of other lists of the same bags.
---     bad_same         the first bad record depends on the bags that are read alone
 --     orders_same      orders of the same bags read the same inputs
 use Rattle.std.proofs.Common.{◌≡◌, ◌∙◌, ℕ, ◌+◌, bytes_eq, Bool, true, false, cond, not, List, [], ◌∷◌, ◌++◌, map, filter, flat_map, Option, None, Some, refl, sym, ap, ap₂, unwrap_or}
 use Rattle.std.proofs.lemmas.List.Sums.{sum_by-append}
@@ -21,17 +20,6 @@ use Rattle.tez_values.proofs.SameLemmas.{filter-same, head_rows-same, output-sam
 use Rattle.tez_history.specs.Shape.{Edge}
 use Rattle.tez_assembly.specs.Order.{Records, ahead, beside, keys_for, part_for, source_part, primary_for, side_for}
 use Rattle.tez_assembly.specs.Laws.{SameBags}
-
--- ---- the first bad record
-
-bad_steps : (steps : List Step) (xs ys : Records) → sort xs ≡ sort ys → least_of (bad_in_steps steps xs) ≡ least_of (bad_in_steps steps ys)
-bad_steps [] xs ys e = refl
-bad_steps (s ∷ steps) xs ys e =
-    ap₂ first_or (filter-same (is_bad_for s) xs ys e) (bad_steps steps (flat_map (step_rows s) xs) (flat_map (step_rows s) ys) (flat_map-same (step_rows s) xs ys e))
-
-pub bad_same : (h : Head) (steps : List Step) (i j : HeadInputs) → SameInputs i j → first_bad h steps i ≡ first_bad h steps j
-bad_same h steps i j e =
-    ap₂ first_or (filter-same (is_bad_for_head h) i.primary j.primary e.primary) (bad_steps steps (head_rows h i) (head_rows h j) (head_rows-same h i j e))
 
 -- ---- lists of the same bags
 

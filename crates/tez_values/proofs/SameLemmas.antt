@@ -2,6 +2,7 @@
 --     distinct-same        the distinct keys of two lists of one bag
 --     rows_by_key-same     the rows by key
 --     join_rows-same       the pairs of a join
+--     first_bad-same       the first bad record of a program
 use Rattle.std.proofs.Common.{◌≡◌, ℕ, ◌+◌, ◌<◌, min, Bool, true, false, cond, not, ◌||◌, List, [], ◌∷◌, length, map, refl, sym, ap, ap₂, ◌∙◌, subst, arith, sum_by, filter, flat_map, fold, bytes_eq, suc, add-zero, decimal, pos, ◌+ℤ◌, unwrap_or}
 use lib.IntN.{+ℤ_assoc, +ℤ_comm}
 use Rattle.std.specs.Fmt.{signed_decimal}
@@ -17,7 +18,9 @@ use Rattle.tez_plan.specs.declared.parts.Head.{Head}
 use Rattle.tez_plan.specs.declared.parts.Head.TheVariants.{Each, Sum, Count, Distinct, Join, Lookup, KeepIn, DropIn}
 use Rattle.tez_plan.specs.declared.parts.Step.{Step}
 use Rattle.tez_values.specs.Heads.{HeadInputs, SameInputs, beside, is_among, is_good, distinct, has_key, sum_of, rows_by_key, sum_rows, count_rows, distinct_rows, join_rows, head_rows}
-use Rattle.tez_values.specs.Program.{output}
+use Rattle.tez_values.specs.Heads.{is_bad_for_head}
+use Rattle.tez_values.specs.Steps.{step_rows, is_bad_for, bad_in_steps}
+use Rattle.tez_values.specs.Program.{output, first_bad, first_or, least_of}
 use Rattle.tez_values.proofs.StepLemmas.{run-same}
 
 pub filter_is : (p : List ℕ → Bool) (xs : List (List ℕ)) → filter p xs ≡ flat_map (λ x. cond (p x) (x ∷ []) []) xs
@@ -158,3 +161,14 @@ head_rows-same (DropIn key_cols side_cols) i j e =
 -- the output of a program depends on the bags of its inputs alone
 pub output-same : (h : Head) (steps : List Step) (i j : HeadInputs) → SameInputs i j → output h steps i ≡ output h steps j
 output-same h steps i j e = run-same steps (head_rows h i) (head_rows h j) (head_rows-same h i j e)
+
+-- ---- the first bad record depends on the bags of the inputs alone
+
+bad_steps-same : (steps : List Step) (xs ys : List (List ℕ)) → sort xs ≡ sort ys → least_of (bad_in_steps steps xs) ≡ least_of (bad_in_steps steps ys)
+bad_steps-same [] xs ys e = refl
+bad_steps-same (s ∷ steps) xs ys e =
+    ap₂ first_or (filter-same (is_bad_for s) xs ys e) (bad_steps-same steps (flat_map (step_rows s) xs) (flat_map (step_rows s) ys) (flat_map-same (step_rows s) xs ys e))
+
+pub first_bad-same : (h : Head) (steps : List Step) (i j : HeadInputs) → SameInputs i j → first_bad h steps i ≡ first_bad h steps j
+first_bad-same h steps i j e =
+    ap₂ first_or (filter-same (is_bad_for_head h) i.primary j.primary e.primary) (bad_steps-same steps (head_rows h i) (head_rows h j) (head_rows-same h i j e))

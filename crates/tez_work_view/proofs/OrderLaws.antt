@@ -16,7 +16,8 @@ use Rattle.tez_contents.specs.Contents.{made, met_bad, fetched_over}
 use Rattle.tez_assembly.specs.Order.{order_for}
 use Rattle.tez_assembly.proofs.EdgeLemmas.{number_same}
 use Rattle.tez_assembly.proofs.ReadLemmas.{reads_are}
-use Rattle.tez_assembly.proofs.BagLemmas.{orders_same, bad_same}
+use Rattle.tez_values.proofs.SameLemmas.{first_bad-same}
+use Rattle.tez_assembly.proofs.BagLemmas.{orders_same}
 use Rattle.tez_work_view.specs.Holdings.{order_view}
 use Rattle.tez_work_view.proofs.OrderLemmas.{OrdersRead, order_is_right}
 
@@ -28,7 +29,7 @@ orders_read job valid = record {
   value = λ tasks a p copy other s same.
       output-same s.head s.steps (reads_of (order_for job tasks a p copy s)) (reads_of (order_for job tasks a p other s)) (orders_same job.plan a.task.vertex.0 s (λ name. share_of_lines (lines_of job name) tasks a.task.index) copy other same);
   bad = λ tasks a p copy other s same.
-      bad_same s.head s.steps (reads_of (order_for job tasks a p copy s)) (reads_of (order_for job tasks a p other s)) (orders_same job.plan a.task.vertex.0 s (λ name. share_of_lines (lines_of job name) tasks a.task.index) copy other same);
+      first_bad-same s.head s.steps (reads_of (order_for job tasks a p copy s)) (reads_of (order_for job tasks a p other s)) (orders_same job.plan a.task.vertex.0 s (λ name. share_of_lines (lines_of job name) tasks a.task.index) copy other same);
 }
 
 pub order_value : (job : Job) (c : ConfValues) (past : Past) (a : AttemptId) (p : ℕ) (o : OrderParts) → IsValid job.plan → IsMade job.plan c past → stage a past ≡ Runs p → order_view job past a p ≡ Some o → value_of o ≡ made job a past
