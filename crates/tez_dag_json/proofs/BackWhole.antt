@@ -13,7 +13,7 @@ use Rattle.tez_plan.specs.declared.parts.Step.{Step}
 use Rattle.tez_plan.specs.declared.parts.Movement.{Movement}
 use Rattle.tez_plan.specs.declared.parts.Movement.TheVariants.{OneToOne, Broadcast, ScatterGather}
 use Rattle.tez_plan.specs.Dag.{Dag}
-use Rattle.tez_plan.specs.Ranges.{is_within, is_name, is_file, is_sink, head_in_range, step_in_range, are_steps, vertex_in_range, movement_in_range, edge_in_range, IsInRanges}
+use Rattle.tez_plan.specs.Ranges.{is_within, is_name, is_file, is_sink, head_in_range, step_in_range, are_steps, vertex_in_range, movement_in_range, edge_in_range, IsInRanges, most_tasks}
 use Rattle.tez_dag_json.specs.Paths.{Path, at_key}
 use Rattle.tez_dag_json.specs.Kinds.{list_within}
 use Rattle.tez_dag_json.specs.Form.{step, vertex, unless_empty, vertices, keyless, by_keys, movements, movement, edge, conf, conf_of, document}
@@ -29,7 +29,7 @@ steps_back path ss fits =
 -- the parts of a vertex are in their ranges
 pub record Parts (name : List ℕ) (tasks : ℕ) (source : Option (List ℕ)) (it : Head) (rest : List Step) (sink : Option (List ℕ)) : Type 0 where
   pub named : is_name name ≡ true
-  pub some : is_within 1 1000 tasks ≡ true
+  pub some : is_within 1 most_tasks tasks ≡ true
   pub file : option_map_or is_file source true ≡ true
   pub headed : head_in_range it ≡ true
   pub stepped : are_steps rest ≡ true
@@ -38,11 +38,11 @@ pub record Parts (name : List ℕ) (tasks : ℕ) (source : Option (List ℕ)) (i
 pub parts_of : (name : List ℕ) (tasks : ℕ) (source : Option (List ℕ)) (it : Head) (rest : List Step) (sink : Option (List ℕ))
     → vertex_in_range (record { name = name; tasks = tasks; source = source; head = it; steps = rest; sink = sink }) ≡ true → Parts name tasks source it rest sink
 parts_of name tasks source it rest sink fits =
-    let a = and_parts (is_name name && is_within 1 1000 tasks && option_map_or is_file source true && head_in_range it && are_steps rest) (option_map_or is_sink sink true) fits in
-    let b = and_parts (is_name name && is_within 1 1000 tasks && option_map_or is_file source true && head_in_range it) (are_steps rest) a.0 in
-    let c = and_parts (is_name name && is_within 1 1000 tasks && option_map_or is_file source true) (head_in_range it) b.0 in
-    let d = and_parts (is_name name && is_within 1 1000 tasks) (option_map_or is_file source true) c.0 in
-    let e = and_parts (is_name name) (is_within 1 1000 tasks) d.0 in
+    let a = and_parts (is_name name && is_within 1 most_tasks tasks && option_map_or is_file source true && head_in_range it && are_steps rest) (option_map_or is_sink sink true) fits in
+    let b = and_parts (is_name name && is_within 1 most_tasks tasks && option_map_or is_file source true && head_in_range it) (are_steps rest) a.0 in
+    let c = and_parts (is_name name && is_within 1 most_tasks tasks && option_map_or is_file source true) (head_in_range it) b.0 in
+    let d = and_parts (is_name name && is_within 1 most_tasks tasks) (option_map_or is_file source true) c.0 in
+    let e = and_parts (is_name name) (is_within 1 most_tasks tasks) d.0 in
     record { named = e.0; some = e.1; file = d.1; headed = c.1; stepped = b.1; sunk = a.1 }
 
 vertex_back_at : (path : Path) (name : List ℕ) (tasks : ℕ) (source : Option (List ℕ)) (it : Head) (rest : List Step) (sink : Option (List ℕ)) → Parts name tasks source it rest sink

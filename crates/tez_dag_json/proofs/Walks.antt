@@ -15,7 +15,7 @@ use Rattle.tez_plan.specs.declared.parts.Step.TheVariants.{Tokenise, Filter, Pro
 use Rattle.tez_plan.specs.declared.parts.Movement.TheVariants.{OneToOne, Broadcast}
 use Rattle.tez_plan.specs.declared.parts.Movement.{Movement}
 use Rattle.tez_plan.specs.declared.parts.Test.{Test}
-use Rattle.tez_plan.specs.Ranges.{is_within, is_number, is_name, is_file, is_sink}
+use Rattle.tez_plan.specs.Ranges.{is_within, is_number, is_name, is_file, is_sink, most_tasks}
 use Rattle.tez_dag_json.specs.Answers.{Answer, ◌>>=◌, ◌>>◌}
 use Rattle.tez_dag_json.specs.Paths.{Path, at_key, at_place, shape, out_of_range}
 use Rattle.tez_dag_json.specs.Kinds.{Reader, text, word, text_of, integer, count_within, whole, number, flag, each, list, list_within, an_object, required, defaulted, optional, absent, chosen, members_among, no_others}
@@ -236,7 +236,7 @@ unfolding Form.vertex
 vertex_walks path d =
     then_next (an_object path d) _ (object_walks path d)
     (bind (required (codes "name") (word is_name) path d) _ (required_walks (codes "name") (word is_name) (word_walks is_name) path d)
-    (λ name. bind (required (codes "tasks") (whole 1 1000) path d) _ (required_walks (codes "tasks") (whole 1 1000) (whole_walks 1 1000) path d)
+    (λ name. bind (required (codes "tasks") (whole 1 most_tasks) path d) _ (required_walks (codes "tasks") (whole 1 most_tasks) (whole_walks 1 most_tasks) path d)
     (λ tasks. bind (optional (codes "source") (word is_file) path d) _ (optional_walks (codes "source") (word is_file) (word_walks is_file) path d)
     (λ source. bind (required (codes "head") Form.head path d) _ (required_walks (codes "head") Form.head head_walks path d)
     (λ it. bind (defaulted (codes "steps") [] (list_within 0 64 Form.step) path d) _ (defaulted_walks (codes "steps") [] (list_within 0 64 Form.step) (within_walks 0 64 Form.step step_walks) path d)

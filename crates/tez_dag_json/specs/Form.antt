@@ -21,7 +21,7 @@ use Rattle.tez_plan.specs.declared.parts.Step.TheVariants.{Tokenise, Filter, Pro
 use Rattle.tez_plan.specs.declared.parts.Test.{Test}
 use Rattle.tez_plan.specs.declared.parts.Test.TheVariants.{Eq, Ne, Contains, Lt, Gt}
 use Rattle.tez_plan.specs.Dag.{Dag}
-use Rattle.tez_plan.specs.Ranges.{is_name, is_file, is_sink}
+use Rattle.tez_plan.specs.Ranges.{is_name, is_file, is_sink, most_tasks}
 use Rattle.tez_dag_json.specs.Answers.{Answer, ◌>>=◌, ◌>>◌}
 use Rattle.tez_dag_json.specs.Paths.{Path, at_key, shape, out_of_range}
 use Rattle.tez_dag_json.specs.Kinds.{Reader, text_of, word, whole, number, flag, list, list_within, an_object, required, defaulted, optional, absent, chosen, no_others}
@@ -153,7 +153,7 @@ unfoldable pub vertex : Reader VertexSpec
 vertex at d = do
   an_object at d
   name ← required (codes "name") (word is_name) at d
-  tasks ← required (codes "tasks") (whole 1 1000) at d
+  tasks ← required (codes "tasks") (whole 1 most_tasks) at d
   source ← optional (codes "source") (word is_file) at d
   it ← required (codes "head") head at d
   rest ← defaulted (codes "steps") [] (list_within 0 64 step) at d

@@ -10,7 +10,7 @@ use crate::head::head;
 use crate::kinds::At;
 use crate::list::{Element, list_within};
 use crate::path;
-use tez_plan::{Head, Steps, VertexSpec};
+use tez_plan::{Head, MOST_TASKS, Steps, VertexSpec};
 
 /// The head at `head`.
 fn head_at(at: &At<'_>) -> Result<Head, DagFault>
@@ -53,7 +53,7 @@ fn vertex(at: &At<'_>) -> Result<VertexSpec, DagFault>
     at.object()?;
     let vertex = VertexSpec {
         name: at.name("name")?,
-        tasks: at.whole("tasks", 1, 1000)? as u32,
+        tasks: at.whole("tasks", 1, MOST_TASKS as u64)? as u32,
         source: at.file("source")?,
         head: head_at(at)?,
         steps: steps_at(at)?,

@@ -1,6 +1,7 @@
 -- The ranges of the parts of a plan.
 --     is_name, is_file, is_sink     texts that may stand there
 --     are_columns                   1 to 8 columns
+--     most_tasks                    the most tasks of a vertex
 --     IsInRanges p                  each part of the plan is in its range
 use Rattle.std.specs.Prelude.{ℕ, ℤ, pos, negsuc, ◌<◌, Bool, true, false, not, ◌&&◌, ◌||◌, ◌==◌, nat_lt, nat_le, List, [], ◌∷◌, length, slice_get, IsTrue, Option, None, Some}
 use Rattle.std.specs.List.{list_all}
@@ -85,9 +86,13 @@ head_in_range (DropIn key side_key) = are_columns key && are_columns side_key
 abbrev pub are_steps : List Step → Bool
 are_steps steps = nat_le (length steps) 64 && list_all step_in_range steps
 
+-- the most tasks that a vertex may have
+abbrev pub most_tasks : ℕ
+most_tasks = 10000
+
 abbrev pub vertex_in_range : VertexSpec → Bool
 vertex_in_range s =
-    is_name s.name && is_within 1 1000 s.tasks && option_map_or is_file s.source true && head_in_range s.head && are_steps s.steps && option_map_or is_sink s.sink true
+    is_name s.name && is_within 1 most_tasks s.tasks && option_map_or is_file s.source true && head_in_range s.head && are_steps s.steps && option_map_or is_sink s.sink true
 
 abbrev pub movement_in_range : Movement → Bool
 movement_in_range OneToOne = true

@@ -21,8 +21,8 @@ pub use fault::PlanFault;
 pub use parts::{Columns, EdgeSpec, Head, Movement, Program, Step, Steps, Test, VertexSpec};
 pub use plan::{Plan, depth, plan_new, topo};
 pub use ranges::{
-    are_columns, are_in_ranges, edge_in_range, is_column, is_file, is_filter_text, is_name,
-    is_number, is_sink, vertex_in_range,
+    MOST_TASKS, are_columns, are_in_ranges, edge_in_range, is_column, is_file, is_filter_text,
+    is_name, is_number, is_sink, vertex_in_range,
 };
 
 /// At most one fault is the first, and a valid plan has none.

@@ -168,7 +168,7 @@ impl Movement {
 #[derive(Drop)]
 pub struct VertexSpec {
     pub name: Name,
-    /// The number of tasks, and of partitions where a scatter-gather edge leads in.
+    /// The number of tasks, 1 to `MOST_TASKS`, and of partitions where a scatter-gather edge leads in.
     pub tasks: u32,
     /// The file that is read.
     pub source: Option<Name>,

@@ -8,6 +8,9 @@ ghost use Rattle.tez_plan.specs.Ranges.{IsInRanges, are_columns, are_steps, begi
 use crate::parts::{EdgeSpec, Head, Movement, Step, Test, VertexSpec};
 use tez_ids::Name;
 
+/// The most tasks that a vertex may have, `most_tasks` of the contracts.
+pub const MOST_TASKS: u32 = 10_000;
+
 /// Whether a text may name a plan or a vertex: 1 to 64 letters, digits, `_` and `-`.
 pub fn is_name(text: &str) -> bool
     ensures { result ≡ is_name text.now }
@@ -195,7 +198,7 @@ pub fn vertex_in_range(vertex: &VertexSpec) -> bool
     ensures { result ≡ vertex_in_range vertex.now }
 {
     is_name(vertex.name.as_str())
-        && is_within(1, 1000, vertex.tasks as usize)
+        && is_within(1, MOST_TASKS as usize, vertex.tasks as usize)
         && source_in_range(&vertex.source)
         && head_in_range(&vertex.head)
         && are_steps(vertex.steps.as_slice())

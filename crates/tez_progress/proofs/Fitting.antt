@@ -10,7 +10,7 @@ use Rattle.tez_lists.specs.Numbers.{In}
 use Rattle.tez_lists.proofs.Cases.{cases}
 use Rattle.tez_plan.specs.declared.parts.VertexSpec.{VertexSpec}
 use Rattle.tez_plan.specs.Dag.{Dag, tasks_of as planned}
-use Rattle.tez_plan.specs.Ranges.{IsInRanges, vertex_in_range, is_within}
+use Rattle.tez_plan.specs.Ranges.{IsInRanges, vertex_in_range, is_within, most_tasks}
 use Rattle.tez_vman.specs.declared.seen.Config.{Config}
 use Rattle.tez_history.specs.Shape.{ByVertex, feed}
 use Rattle.tez_laws.proofs.StepLaw.{both}
@@ -31,7 +31,7 @@ in_slice (y ∷ xs) zero x h = inl (let e : Some y ≡ Some x = h in cc)
 in_slice (y ∷ xs) (suc i) x h = inr (in_slice xs i x h)
 
 vertex_tasks : (s : VertexSpec) → vertex_in_range s ≡ true → 1 ≤ s.tasks
-vertex_tasks s h = let k : is_within 1 1000 s.tasks ≡ true = (both (both (both (both (both h).0).0).0).0).1 in le_from 1 s.tasks (both k).0
+vertex_tasks s h = let k : is_within 1 most_tasks s.tasks ≡ true = (both (both (both (both (both h).0).0).0).0).1 in le_from 1 s.tasks (both k).0
 
 pub planned_some : (g : Dag) (v : ℕ) → IsInRanges g → v < length g.vertices → 1 ≤ planned g v
 planned_some g v ranges h = by (slice_get g.vertices v) refl where

@@ -18,7 +18,7 @@ use Rattle.tez_plan.specs.declared.parts.VertexSpec.{VertexSpec}
 use Rattle.tez_plan.specs.Dag.{Dag, tasks_of as planned}
 use Rattle.tez_plan.specs.Order.{depth}
 use Rattle.tez_plan.specs.Faults.{IsValid}
-use Rattle.tez_plan.specs.Ranges.{IsInRanges, vertex_in_range, is_within}
+use Rattle.tez_plan.specs.Ranges.{IsInRanges, vertex_in_range, is_within, most_tasks}
 use Rattle.tez_queue.specs.Queue.{row_of, of_depth, empty_queue}
 use Rattle.tez_queue.specs.Kept.{by_depth, tasks_of, start_of, IsKept}
 use Rattle.tez_queue.proofs.DepthLemmas.{shallow}
@@ -64,8 +64,8 @@ depths_low g valid ranges depths e v = by (cases_lt v (length g.vertices)) where
 within_part : (a b c d e f : Bool) → (a && b && c && d && e && f) ≡ true → b ≡ true
 within_part a b c d e f h = grind arith
 
-few_of_one : (s : VertexSpec) → vertex_in_range s ≡ true → s.tasks ≤ 1000
-few_of_one s h = let w = within_part _ (is_within 1 1000 s.tasks) _ _ _ _ h in grind (arith, nat_tests)
+few_of_one : (s : VertexSpec) → vertex_in_range s ≡ true → s.tasks ≤ most_tasks
+few_of_one s h = let w = within_part _ (is_within 1 most_tasks s.tasks) _ _ _ _ h in grind (arith, nat_tests)
 
 long_copies : (n : ℕ) (b : Bool) → length (replicate n b) ≡ n
 long_copies zero b = refl
@@ -74,7 +74,7 @@ long_copies (suc n) b = ap suc (long_copies n b)
 abbrev empty_row : VertexSpec → List Bool
 empty_row s = replicate s.tasks false
 
-pub few_tasks : (vs : List VertexSpec) → list_all vertex_in_range vs ≡ true → (w : ℕ) → length (row_of (map (λ (s : VertexSpec). replicate s.tasks false) vs) w) ≤ 1000
+pub few_tasks : (vs : List VertexSpec) → list_all vertex_in_range vs ≡ true → (w : ℕ) → length (row_of (map (λ (s : VertexSpec). replicate s.tasks false) vs) w) ≤ most_tasks
 few_tasks [] h w = omega arith
 few_tasks (s ∷ vs) h zero = let few = few_of_one s (and_parts _ _ h).0 in let long = long_copies s.tasks false in omega arith
 few_tasks (s ∷ vs) h (suc w) = few_tasks vs (and_parts _ _ h).1 w
@@ -82,8 +82,8 @@ few_tasks (s ∷ vs) h (suc w) = few_tasks vs (and_parts _ _ h).1 w
 long_tasks : (rows : List (List Bool)) (v : ℕ) → length (tasks_of rows v) ≡ length (row_of rows v)
 long_tasks rows v = length-map (numbers_from 0 (length (row_of rows v))) (task v) ∙ length_numbers 0 (length (row_of rows v))
 
-pub room : (rows : List (List Bool)) (vs : List ℕ) → length vs ≤ 4096 → ((w : ℕ) → length (row_of rows w) ≤ 1000) → length (flat_map (tasks_of rows) vs) < 2 ^ 32
-room rows vs few low = let short = flat_short 1000 (tasks_of rows) vs (λ v. let long = long_tasks rows v in let l = low v in omega arith) in omega arith
+pub room : (rows : List (List Bool)) (vs : List ℕ) → length vs ≤ 4096 → ((w : ℕ) → length (row_of rows w) ≤ most_tasks) → length (flat_map (tasks_of rows) vs) < 2 ^ 32
+room rows vs few low = let short = flat_short most_tasks (tasks_of rows) vs (λ v. let long = long_tasks rows v in let l = low v in omega arith) in omega arith
 
 -- ---- nothing waits
 
@@ -147,8 +147,8 @@ module _ (g : Dag) (depths : List ℕ) (rows : List (List Bool)) (of : IsOf g de
   pub few_rows : length rows ≤ 64
   few_rows = let same = many in let few = of.few in omega arith
 
-  pub low_rows : (w : ℕ) → length (row_of rows w) ≤ 1000
-  low_rows = subst (λ (x : List (List Bool)). (w : ℕ) → length (row_of x w) ≤ 1000) (sym of.rows_are) (few_tasks g.vertices of.ranges.vertices)
+  pub low_rows : (w : ℕ) → length (row_of rows w) ≤ most_tasks
+  low_rows = subst (λ (x : List (List Bool)). (w : ℕ) → length (row_of x w) ≤ most_tasks) (sym of.rows_are) (few_tasks g.vertices of.ranges.vertices)
 
   empty : (w : ℕ) → row_of rows w ≡ replicate (length (row_of rows w)) false
   empty = subst (λ (x : List (List Bool)). (w : ℕ) → row_of x w ≡ replicate (length (row_of x w)) false) (sym of.rows_are) (empty_at g.vertices)

@@ -1,5 +1,6 @@
 // The tasks of a plan by depth, vertex and index.
 ghost use Rattle.std.specs.Prelude.{◌≡◌, ◌<◌, ◌≤◌, ◌*◌, ℕ, ◌++◌, length, map, IfOk, OnOk};
+ghost use Rattle.tez_plan.specs.Ranges.{most_tasks};
 ghost use Rattle.std.specs.List.{flat_map};
 ghost use Rattle.tez_lists.specs.Numbers.{numbers_from};
 ghost use Rattle.tez_plan.specs.Order.{depth};
@@ -76,7 +77,7 @@ pub fn tasks_in_order(
 /// How many tasks stand before those of a vertex.
 pub fn start_of(rows: &[Row], vertices: &[u16], v: u16) -> u32
     requires few { length vertices.now ≤ 4096 }
-    requires low { (w : ℕ) → length (row_of rows.now w) ≤ 1000 }
+    requires low { (w : ℕ) → length (row_of rows.now w) ≤ most_tasks }
     ensures { result ≡ start_of rows.now vertices.now v }
 {
     let mut start = 0;
@@ -93,7 +94,7 @@ pub fn start_of(rows: &[Row], vertices: &[u16], v: u16) -> u32
 pub fn starts_of(alloc: Global, rows: &[Row], vertices: &[u16]) -> Result<Vec<u32>, AllocError>
     requires some { length rows.now ≤ 64 }
     requires few { length vertices.now ≤ 4096 }
-    requires low { (w : ℕ) → length (row_of rows.now w) ≤ 1000 }
+    requires low { (w : ℕ) → length (row_of rows.now w) ≤ most_tasks }
     ensures { IfOk result (λ starts. starts.items ≡ map (start_of rows.now vertices.now) (numbers_from 0 (length rows.now))) }
 {
     let mut starts = Vec::new(alloc);

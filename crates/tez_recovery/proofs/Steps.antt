@@ -12,7 +12,7 @@ use Rattle.tez_ids.specs.declared.AttemptId.{AttemptId}
 use Rattle.tez_ids.specs.Same.{same_task, same_attempt}
 use Rattle.tez_lists.specs.Numbers.{In}
 use Rattle.tez_plan.specs.Dag.{Dag, from, to, tasks_of as planned}
-use Rattle.tez_plan.specs.Ranges.{IsInRanges, vertex_in_range, is_within}
+use Rattle.tez_plan.specs.Ranges.{IsInRanges, vertex_in_range, is_within, most_tasks}
 use Rattle.tez_plan.specs.declared.parts.VertexSpec.{VertexSpec}
 use Rattle.tez_plan.specs.declared.parts.Movement.{Movement}
 use Rattle.tez_plan.specs.declared.parts.Movement.TheVariants.{OneToOne, Broadcast, ScatterGather}
@@ -67,8 +67,8 @@ stood_step g c p vs x m may fits =
     (stands_view g c p x.0 x.1 x.2 (may, m) fits) refl refl
 
 -- the tasks of the plan
-few_tasks : (s : VertexSpec) → vertex_in_range s ≡ true → s.tasks ≤ 1000
-few_tasks s h = let k : is_within 1 1000 s.tasks ≡ true = (both (both (both (both (both h).0).0).0).0).1 in at_most s.tasks 1000 (both k).1 where
+few_tasks : (s : VertexSpec) → vertex_in_range s ≡ true → s.tasks ≤ most_tasks
+few_tasks s h = let k : is_within 1 most_tasks s.tasks ≡ true = (both (both (both (both (both h).0).0).0).0).1 in at_most s.tasks most_tasks (both k).1 where
   at_most : (a b : ℕ) → nat_le a b ≡ true → a ≤ b
   at_most a b k = grind (arith, nat_tests)
 
@@ -77,15 +77,15 @@ in_slice [] i x h = cc
 in_slice (y ∷ xs) zero x h = inl (let e : y ≡ x = same_Some y x h in sym e)
 in_slice (y ∷ xs) (suc i) x h = inr (in_slice xs i x h)
 
-planned_few : (g : Dag) (v : ℕ) → IsInRanges g → planned g v ≤ 1000
+planned_few : (g : Dag) (v : ℕ) → IsInRanges g → planned g v ≤ most_tasks
 planned_few g v ranges = by (slice_get g.vertices v) refl where
-  by : (o : Option VertexSpec) → slice_get g.vertices v ≡ o → option_map_or (λ s. s.tasks) o 0 ≤ 1000
+  by : (o : Option VertexSpec) → slice_get g.vertices v ≡ o → option_map_or (λ s. s.tasks) o 0 ≤ most_tasks
   by (Some s) e = few_tasks s (all_at vertex_in_range s g.vertices ranges.vertices (in_slice g.vertices v s e))
   by None e = omega arith
 
 -- the partitions of the edges
-product_fits : (a b : ℕ) → a ≤ 1000 → b ≤ 1000 → a * b < 2 ^ 32
-product_fits a b h k = let most : a * b ≤ 1000 * 1000 = mul-le a b 1000 1000 h k in omega arith
+product_fits : (a b : ℕ) → a ≤ most_tasks → b ≤ most_tasks → a * b < 2 ^ 32
+product_fits a b h k = let most : a * b ≤ most_tasks * most_tasks = mul-le a b most_tasks most_tasks h k in omega arith
 
 is_number : (d e : ℕ) → (d == e) ≡ true → d ≡ e
 is_number d e h = grind (arith, nat_tests)
@@ -94,12 +94,12 @@ all_mapped : {X Y : Type 0} (P : Y → Type 0) (f : X → Y) (xs : List X) → (
 all_mapped P f [] h = tt
 all_mapped P f (x ∷ xs) h = (h x, all_mapped P f xs h)
 
-fits_by : (x : Movement) (v : ℕ) (s : Config) (l : LinkState) (i j p b : ℕ) → s.tasks ≤ 1000 → p ≤ 1000 → ((l.target == v) ≡ true → s.base ≤ p) → FitsRouting v s l (routing_for x i j p b)
+fits_by : (x : Movement) (v : ℕ) (s : Config) (l : LinkState) (i j p b : ℕ) → s.tasks ≤ most_tasks → p ≤ most_tasks → ((l.target == v) ≡ true → s.base ≤ p) → FitsRouting v s l (routing_for x i j p b)
 fits_by OneToOne v s l i j p b few parts base = tt
 fits_by Broadcast v s l i j p b few parts base = tt
 fits_by (ScatterGather keys) v s l i j p b few parts base = (λ _. product_fits s.tasks p few parts, base)
 
-fits_parts : (g : Dag) (past : Past) (v : ℕ) (s : Config) → IsInRanges g → s.tasks ≤ 1000 → s.base ≤ planned g v → AllByRecursion (FitsParts v s) (links_view g past)
+fits_parts : (g : Dag) (past : Past) (v : ℕ) (s : Config) → IsInRanges g → s.tasks ≤ most_tasks → s.base ≤ planned g v → AllByRecursion (FitsParts v s) (links_view g past)
 fits_parts g past v s ranges few base =
     all_mapped (FitsParts v s) (link_view g past) (enumerate_from 0 g.edges)
     (λ e.

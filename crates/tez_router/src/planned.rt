@@ -1,5 +1,6 @@
 // The router of a plan.
 ghost use Rattle.std.specs.Prelude.{◌≡◌, ◌<◌, ◌≤◌, length, map, IfOk};
+ghost use Rattle.tez_plan.specs.Ranges.{most_tasks};
 ghost use Rattle.std.specs.List.{range_with_len};
 ghost use Rattle.tez_router.specs.State.{routing_of};
 ghost use Rattle.tez_plan.specs.Dag.{tasks_of};
@@ -28,7 +29,7 @@ fn tasks_of(p: &Plan, v: VertexId) -> u32
     requires { v.0 < length p.now.vertices }
     ensures count { result ≡ tasks_of p.now v.0 }
     ensures some { 1 ≤ result }
-    ensures few { result ≤ 1000 }
+    ensures few { result ≤ most_tasks }
 {
     p.vertices()[v.0 as usize].tasks
 }
@@ -37,8 +38,8 @@ fn tasks_of(p: &Plan, v: VertexId) -> u32
 fn planned_manager(movement: &Movement, sources: u32, consumers: u32) -> Manager
     requires some { 1 ≤ sources }
     requires somewhere { 1 ≤ consumers }
-    requires few { sources ≤ 1000 }
-    requires narrow { consumers ≤ 1000 }
+    requires few { sources ≤ most_tasks }
+    requires narrow { consumers ≤ most_tasks }
     ensures { routing_of result ≡ routing_by movement.now sources consumers }
 {
     match movement {

@@ -10,7 +10,7 @@ use Rattle.tez_lists.specs.Numbers.{In}
 use Rattle.tez_lists.proofs.Members.{in_filter}
 use Rattle.tez_plan.specs.Dag.{Dag, from, to, edges_into, is_one_to_one, is_scatter_gather, goes_one_to_one, goes_by_key, tasks_of as planned}
 use Rattle.tez_plan.specs.Faults.{IsValid}
-use Rattle.tez_plan.specs.Ranges.{IsInRanges}
+use Rattle.tez_plan.specs.Ranges.{IsInRanges, most_tasks}
 use Rattle.tez_plan.specs.declared.parts.EdgeSpec.{EdgeSpec}
 use Rattle.tez_plan.specs.declared.parts.Movement.{Movement}
 use Rattle.tez_plan.specs.declared.parts.Movement.TheVariants.{OneToOne, Broadcast, ScatterGather}
@@ -40,13 +40,13 @@ Consumes OneToOne sources consumers parts base = consumers ≡ sources
 Consumes Broadcast sources consumers parts base = ⊤
 Consumes (ScatterGather keys) sources consumers parts base = (1 ≤ base) × (base ≤ parts) × (consumers ≡ tasks_for parts base)
 
-product_fits : (a b : ℕ) → a ≤ 1000 → b ≤ 1000 → a * b < 2 ^ 32
-product_fits a b h k = let most : a * b ≤ 1000 * 1000 = mul-le a b 1000 1000 h k in omega arith
+product_fits : (a b : ℕ) → a ≤ most_tasks → b ≤ most_tasks → a * b < 2 ^ 32
+product_fits a b h k = let most : a * b ≤ most_tasks * most_tasks = mul-le a b most_tasks most_tasks h k in omega arith
 
 some_task : (t n : ℕ) → t < n → 1 ≤ n
 some_task t n h = omega arith
 
-routes_by : (m : Movement) (sources consumers parts base t : ℕ) → 1 ≤ sources → sources ≤ 1000 → parts ≤ 1000 → t < consumers → Consumes m sources consumers parts base
+routes_by : (m : Movement) (sources consumers parts base t : ℕ) → 1 ≤ sources → sources ≤ most_tasks → parts ≤ most_tasks → t < consumers → Consumes m sources consumers parts base
     → (is_manager m sources consumers parts base && nat_lt t (table_by m sources consumers parts base).consumers) ≡ true
 routes_by OneToOne sources consumers parts base t some few low inside same = true_and (le_true 1 sources some) (lt_true t sources (subst (λ n. t < n) same inside))
 routes_by Broadcast sources consumers parts base t some few low inside same =

@@ -16,7 +16,7 @@ use Rattle.tez_lists.specs.Numbers.{numbers_from}
 use Rattle.tez_lists.proofs.Cases.{cases}
 use Rattle.tez_plan.specs.Dag.{Dag, from, to, is_broadcast, tasks_of as planned}
 use Rattle.tez_plan.specs.Faults.{IsValid}
-use Rattle.tez_plan.specs.Ranges.{IsInRanges, vertex_in_range, is_within}
+use Rattle.tez_plan.specs.Ranges.{IsInRanges, vertex_in_range, is_within, most_tasks}
 use Rattle.tez_plan.specs.declared.parts.VertexSpec.{VertexSpec}
 use Rattle.tez_plan.proofs.CheckLemmas.{valid_parts}
 use Rattle.tez_conf.specs.declared.values.ConfValues.{ConfValues}
@@ -41,12 +41,12 @@ le_true a b h = grind (arith, nat_tests)
 
 -- ---- the plan
 
-few_tasks : (s : VertexSpec) → vertex_in_range s ≡ true → s.tasks ≤ 1000
-few_tasks s h = let k : is_within 1 1000 s.tasks ≡ true = (both (both (both (both (both h).0).0).0).0).1 in le_from s.tasks 1000 (both k).1
+few_tasks : (s : VertexSpec) → vertex_in_range s ≡ true → s.tasks ≤ most_tasks
+few_tasks s h = let k : is_within 1 most_tasks s.tasks ≡ true = (both (both (both (both (both h).0).0).0).0).1 in le_from s.tasks most_tasks (both k).1
 
-pub planned_few : (g : Dag) (v : ℕ) → IsInRanges g → planned g v ≤ 1000
+pub planned_few : (g : Dag) (v : ℕ) → IsInRanges g → planned g v ≤ most_tasks
 planned_few g v ranges = by (slice_get g.vertices v) refl where
-  by : (o : Option VertexSpec) → slice_get g.vertices v ≡ o → option_map_or (λ s. s.tasks) o 0 ≤ 1000
+  by : (o : Option VertexSpec) → slice_get g.vertices v ≡ o → option_map_or (λ s. s.tasks) o 0 ≤ most_tasks
   by (Some s) e = few_tasks s (all_at vertex_in_range s g.vertices ranges.vertices (at_in s g.vertices v e))
   by None e = omega arith
 
@@ -85,12 +85,12 @@ sum_within f m n xs h few = le_trans (sum_few f m xs h) (mul-le (length xs) m n 
 
 -- ---- the sources
 
-count_few : (g : Dag) (v : ℕ) (past : Past) → IsInRanges g → FitsPlan g past → task_count g v past ≤ 1000
+count_few : (g : Dag) (v : ℕ) (past : Past) → IsInRanges g → FitsPlan g past → task_count g v past ≤ most_tasks
 count_few g v past ranges fits = le_trans (fits v) (planned_few g v ranges)
 
 sources_few : (g : Dag) (v : ℕ) (past : Past) → IsValid g → IsInRanges g → FitsPlan g past → source_tasks g v past < 2 ^ 32
 sources_few g v past valid ranges fits =
-    let k : source_tasks g v past ≤ 256 * 1000 = sum_within (λ (e : Edge). task_count g (from g e.1) past) 1000 256 (primary_edges g v) (λ e. count_few g (from g e.1) past ranges fits) (primary_few g v valid) in
+    let k : source_tasks g v past ≤ 256 * most_tasks = sum_within (λ (e : Edge). task_count g (from g e.1) past) most_tasks 256 (primary_edges g v) (λ e. count_few g (from g e.1) past ranges fits) (primary_few g v valid) in
     omega arith
 
 -- ---- the bytes
@@ -114,14 +114,14 @@ found_few {X} f first (suc n) = by (f first) (found_few f (suc first) n) where
   by (Some x) h = omega arith
   by None h = omega arith
 
-edge_few : (g : Dag) (past : Past) (e : Edge) → IsInRanges g → FitsPlan g past → BytesFit past → sum_by (λ a. made_bytes a e.0 past) (edge_winners g past e) ≤ 1000 * 2 ^ 64
+edge_few : (g : Dag) (past : Past) (e : Edge) → IsInRanges g → FitsPlan g past → BytesFit past → sum_by (λ a. made_bytes a e.0 past) (edge_winners g past e) ≤ most_tasks * 2 ^ 64
 edge_few g past e ranges fits bytes =
-    sum_within (λ a. made_bytes a e.0 past) (2 ^ 64) 1000 (edge_winners g past e) (λ a. made_few a e.0 past bytes)
+    sum_within (λ a. made_bytes a e.0 past) (2 ^ 64) most_tasks (edge_winners g past e) (λ a. made_few a e.0 past bytes)
     (le_trans (found_few (λ i. winner (task (from g e.1) i) past) 0 (task_count g (from g e.1) past)) (count_few g (from g e.1) past ranges fits))
 
 bytes_few : (g : Dag) (v : ℕ) (past : Past) → IsValid g → IsInRanges g → FitsPlan g past → BytesFit past → source_bytes g v past < 2 ^ 96
 bytes_few g v past valid ranges fits bytes =
-    let k : source_bytes g v past ≤ 256 * (1000 * 2 ^ 64) = sum_within (λ (e : Edge). sum_by (λ a. made_bytes a e.0 past) (edge_winners g past e)) (1000 * 2 ^ 64) 256 (primary_edges g v)
+    let k : source_bytes g v past ≤ 256 * (most_tasks * 2 ^ 64) = sum_within (λ (e : Edge). sum_by (λ a. made_bytes a e.0 past) (edge_winners g past e)) (most_tasks * 2 ^ 64) 256 (primary_edges g v)
     (λ e. edge_few g past e ranges fits bytes) (primary_few g v valid) in
     omega arith
 

@@ -7,7 +7,7 @@ use Rattle.std.proofs.lemmas.List.Elements.{All-set}
 use Rattle.std.proofs.lemmas.List.Sums.{sum_by-le, sum_by-set, get_or-le-sum_by}
 use Rattle.tez_schedule.specs.Kept.{AddsUp}
 
-pub few_bytes : (total : ℕ) (made : List ℕ) → AddsUp total made → total < 2 ^ 75
+pub few_bytes : (total : ℕ) (made : List ℕ) → AddsUp total made → total < 2 ^ 78
 few_bytes total made h =
     let most : sum_by (λ n. n) made ≤ length made * 18446744073709551615 = sum_by-le (λ n. n) 18446744073709551615 made (λ i b d. let l = h.narrow i b d in omega arith) in
     let few = h.few in

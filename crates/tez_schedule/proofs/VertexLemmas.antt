@@ -1,5 +1,6 @@
 -- What is known of a vertex.
 use Rattle.std.specs.Prelude.{◌≡◌, ◌≢◌, ℕ, zero, suc, ◌+◌, ◌-◌, ◌<◌, ◌≤◌, Bool, true, false, cond, not, ◌&&◌, ◌==◌, is_none, if◌then◌else◌, ◌⊎◌, List, [], ◌∷◌, map, length, replicate, position, Option, Some, None, refl, nat_lt}
+use Rattle.tez_plan.specs.Ranges.{most_tasks}
 use Rattle.std.specs.List.{find, position_from}
 use Rattle.std.proofs.Common.{ap, sym, ◌∙◌, arith, subst, add-one, set, eqb, inl, inr, true≢false}
 use Rattle.std.proofs.lemmas.Bool.Decides.{nat_tests, eqb_tells}
@@ -108,7 +109,7 @@ all_shut : (f : ℕ → Bool) (a n : ℕ) → ((i : ℕ) → f i ≡ false) → 
 all_shut f a zero shut = refl
 all_shut f a (suc n) shut = let here = shut a in let rest = all_shut f (suc a) n shut in cc
 
-first_kept : (rule : Rule) (feeder : Option VertexId) (inputs : List Input) (planned : ℕ) → 1 ≤ planned → planned ≤ 1000 → length inputs ≤ 256 → HasInput rule inputs
+first_kept : (rule : Rule) (feeder : Option VertexId) (inputs : List Input) (planned : ℕ) → 1 ≤ planned → planned ≤ most_tasks → length inputs ≤ 256 → HasInput rule inputs
     → IsVertex (new_vertex rule feeder inputs planned) (replicate planned false)
 first_kept rule feeder inputs planned some few few_inputs input = record {
   some = some;
@@ -124,7 +125,7 @@ first_kept rule feeder inputs planned some few few_inputs input = record {
 }
 
 pub new_kept : (rule : Rule) (feeder : Option VertexId) (inputs : List Input) (planned : ℕ) (scheduled fed won tasks : List Bool) → scheduled ≡ replicate planned false → fed ≡ replicate planned (is_none feeder)
-    → won ≡ replicate planned false → tasks ≡ replicate planned false → 1 ≤ planned → planned ≤ 1000 → length inputs ≤ 256 → HasInput rule inputs
+    → won ≡ replicate planned false → tasks ≡ replicate planned false → 1 ≤ planned → planned ≤ most_tasks → length inputs ≤ 256 → HasInput rule inputs
     → IsVertex (record { rule = rule; feeder = feeder; inputs = inputs; planned = planned; config = None; scheduled = scheduled; fed = fed; won = won }) tasks
 new_kept rule feeder inputs planned scheduled fed won tasks a b c d some few few_inputs input =
     rw (a, b, c, d) (first_kept rule feeder inputs planned some few few_inputs input)

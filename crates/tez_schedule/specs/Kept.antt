@@ -2,6 +2,7 @@
 --     IsVertex x open      what the schedule of a vertex keeps, with the set of its open tasks
 --     IsKept s             what a schedule keeps
 use Rattle.std.specs.Prelude.{◌≡◌, ◌≢◌, ℕ, ◌<◌, ◌≤◌, ◌^◌, ⊤, Bool, true, List, [], map, length, slice_get, IfSome}
+use Rattle.tez_plan.specs.Ranges.{most_tasks}
 use Rattle.std.specs.List.{All, sum_by}
 use Rattle.std.specs.Option.{option_map_or}
 use Rattle.tez_lists.specs.Numbers.{numbers_from}
@@ -14,7 +15,7 @@ use Rattle.tez_schedule.specs.Table.{flag, is_open, tasks_by}
 -- the bytes by task, each in 64 bits, with their sum
 pub record AddsUp (total : ℕ) (made : List ℕ) : Type 0 where
   pub sum : total ≡ sum_by (λ n. n) made
-  pub few : length made ≤ 1000
+  pub few : length made ≤ most_tasks
   pub narrow : All (λ n. n < 2 ^ 64) made
 
 -- a vertex that reads no source has an input
@@ -29,7 +30,7 @@ Fits planned c = (1 ≤ c.tasks) × (c.tasks ≤ planned)
 
 pub record IsVertex (x : VertexState) (open_tasks : List Bool) : Type 0 where
   pub some : 1 ≤ x.planned
-  pub few : x.planned ≤ 1000
+  pub few : x.planned ≤ most_tasks
   pub scheduled_sized : length x.scheduled ≡ x.planned
   pub fed_sized : length x.fed ≡ x.planned
   pub won_sized : length x.won ≡ x.planned

@@ -1,4 +1,5 @@
 ghost use Rattle.std.specs.Prelude.{◌≡◌, ◌≤◌, ◌<◌, ◌^◌, ◌*◌, length, slice_set, replicate, IfOk};
+ghost use Rattle.tez_plan.specs.Ranges.{most_tasks};
 ghost use Rattle.tez_schedule.specs.Table.{made_in};
 
 use std::alloc::{AllocError, Global};
@@ -27,7 +28,7 @@ impl Model for EdgeBytes {
 impl EdgeBytes {
     /// An edge from a vertex with so many tasks, for which nothing was made.
     pub fn new(alloc: Global, source: VertexId, tasks: u32) -> Result<Self, AllocError>
-        requires { tasks ≤ 1000 }
+        requires { tasks ≤ most_tasks }
         ensures { IfOk result (λ e. e ≡ record { source = source; made = replicate tasks 0 }) }
     {
         Ok(EdgeBytes {
@@ -47,7 +48,7 @@ impl EdgeBytes {
     /// How many bytes were made by all source tasks together.
     pub fn total(&self) -> u128
         ensures sum { result ≡ made_in self.now }
-        ensures few { result < 2 ^ 75 }
+        ensures few { result < 2 ^ 78 }
     {
         self.total
     }

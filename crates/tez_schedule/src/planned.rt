@@ -1,5 +1,6 @@
 //! The vertices and edges of a plan, before anything is known of them.
 ghost use Rattle.std.specs.Prelude.{◌≡◌, ◌≤◌, ◌<◌, ◌&&◌, ◌==◌, not, false, length, map, slice_get, IfOk};
+ghost use Rattle.tez_plan.specs.Ranges.{most_tasks};
 ghost use Rattle.std.specs.Option.{option_map, option_map_or};
 ghost use Rattle.tez_lists.specs.Numbers.{numbers_from};
 ghost use Rattle.tez_plan.specs.Dag.{tasks_of, to, source_of, vertex, is_one_to_one, is_broadcast};
@@ -22,7 +23,7 @@ fn tasks_of(p: &Plan, v: VertexId) -> u32
     requires { v.0 < length p.now.vertices }
     ensures count { result ≡ tasks_of p.now v.0 }
     ensures some { 1 ≤ result }
-    ensures few { result ≤ 1000 }
+    ensures few { result ≤ most_tasks }
 {
     p.vertices()[v.0 as usize].tasks
 }

@@ -1,5 +1,6 @@
 //! What the managers see and say.
 ghost use Rattle.std.specs.Prelude.{◌≡◌, ◌≤◌, ◌<◌, ◌^◌, true, length, map, slice_get, IfSome};
+ghost use Rattle.tez_plan.specs.Ranges.{most_tasks};
 ghost use Rattle.std.specs.Option.{option_and_then};
 ghost use Rattle.tez_lists.specs.Tables.{each_from};
 ghost use Rattle.tez_vman.specs.Rules.{HasSources};
@@ -17,7 +18,7 @@ fn source_at(vertices: &[VertexSchedule], v: VertexId) -> (u32, u32, bool)
     ensures winners { result.1 ≡ won_at vertices.now v.0 }
     ensures configured { result.2 ≡ is_configured_at vertices.now v.0 }
     ensures finished { result.1 ≤ result.0 }
-    ensures few { result.0 ≤ 1000 }
+    ensures few { result.0 ≤ most_tasks }
     ensures some { result.2 ≡ true → 1 ≤ result.0 }
     ensures planned { result.0 ≤ planned_at (map layout vertices.now) v.0 }
 {
@@ -29,7 +30,7 @@ fn source_at(vertices: &[VertexSchedule], v: VertexId) -> (u32, u32, bool)
 
 fn made_at(edges: &[EdgeBytes], e: EdgeId) -> u128
     ensures sum { result ≡ made_at edges.now e.0 }
-    ensures few { result < 2 ^ 75 }
+    ensures few { result < 2 ^ 78 }
 {
     match edges.get(e.0 as usize) {
         Some(edge) => edge.total(),

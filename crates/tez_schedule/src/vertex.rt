@@ -1,4 +1,5 @@
 ghost use Rattle.std.specs.Prelude.{◌≡◌, ◌≤◌, ◌<◌, true, None, Some, nat_lt, length, slice_set, IfOk};
+ghost use Rattle.tez_plan.specs.Ranges.{most_tasks};
 ghost use Rattle.tez_lists.specs.Tables.{each_from};
 ghost use Rattle.tez_schedule.specs.Managers.{rule_of};
 ghost use Rattle.tez_schedule.specs.Planned.{new_vertex};
@@ -50,7 +51,7 @@ impl VertexSchedule {
         planned: u32,
     ) -> Result<Self, AllocError>
         requires some { 1 ≤ planned }
-        requires few { planned ≤ 1000 }
+        requires few { planned ≤ most_tasks }
         requires few_inputs { length inputs.items ≤ 256 }
         requires input { HasInput (rule_of manager) inputs.items }
         ensures { IfOk result (λ x. x ≡ new_vertex (rule_of manager) feeder inputs.items planned) }
@@ -102,7 +103,7 @@ impl VertexSchedule {
         ensures count { result ≡ tasks_in self.now }
         ensures some { 1 ≤ result }
         ensures planned { result ≤ self.now.planned }
-        ensures few { result ≤ 1000 }
+        ensures few { result ≤ most_tasks }
     {
         match self.config {
             Some(config) => config.tasks,

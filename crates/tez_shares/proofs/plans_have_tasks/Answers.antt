@@ -3,7 +3,7 @@ use Rattle.std.specs.List.{list_all}
 use Rattle.std.specs.Option.{option_map_or}
 use Rattle.std.proofs.lemmas.Bool.{and_parts}
 use Rattle.tez_plan.specs.declared.parts.VertexSpec.{VertexSpec}
-use Rattle.tez_plan.specs.Ranges.{is_within, vertex_in_range}
+use Rattle.tez_plan.specs.Ranges.{is_within, vertex_in_range, most_tasks}
 use Rattle.tez_shares.proofs.plans_have_tasks.Goals as goal
 
 tasks_there : (s : VertexSpec) → vertex_in_range s ≡ true → 0 < s.tasks
@@ -12,7 +12,7 @@ tasks_there s h =
     let b = (and_parts _ _ a).0 in
     let d = (and_parts _ _ b).0 in
     let e = (and_parts _ _ d).0 in
-    let f : is_within 1 1000 s.tasks ≡ true = (and_parts _ _ e).1 in
+    let f : is_within 1 most_tasks s.tasks ≡ true = (and_parts _ _ e).1 in
     let low : 1 ≤ s.tasks = leb-true 1 s.tasks (and_parts _ _ f).0 in
     omega arith
 
