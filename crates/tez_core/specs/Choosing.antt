@@ -16,9 +16,9 @@ use Rattle.tez_task.specs.TaskState.{TaskState}
 use Rattle.tez_vertex.specs.Vertex.{Vertex}
 use Rattle.tez_router.specs.Table.{fetches_in, first_complete}
 use Rattle.tez_schedule.specs.Table.{next_configure, next_queue}
-use Rattle.tez_master_view.specs.State.{MasterState}
-use Rattle.tez_master_view.specs.Read.{queued_of, winner_in, is_on_slot}
-use Rattle.tez_master_view.specs.Choice.{or_else, fetch_event, ready_choice, commit_choice, publish_choice, finish_choice}
+use Rattle.tez_master_model.specs.State.{MasterState}
+use Rattle.tez_master_model.specs.Read.{queued_of, winner_in, is_on_slot}
+use Rattle.tez_master_model.specs.Choice.{or_else, fetch_event, ready_choice, commit_choice, publish_choice, finish_choice}
 use Rattle.tez_core.specs.Parts.{task_at}
 
 abbrev pub queued_one : TaskState → Option AttemptId

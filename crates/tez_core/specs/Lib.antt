@@ -1,5 +1,4 @@
 pub mod Parts
-pub mod Fresh
 pub mod Prepared
 pub mod Choosing
 pub mod Lost

@@ -11,7 +11,7 @@ use Rattle.tez_plan.specs.Order.{depth}
 use Rattle.tez_task.specs.TaskState.{TaskState}
 use Rattle.tez_vertex.specs.Table.{task_of}
 use Rattle.tez_vertex.specs.Vertex.{Vertex}
-use Rattle.tez_master_view.specs.Read.{queued_of}
+use Rattle.tez_master_model.specs.Read.{queued_of}
 
 abbrev pub task_at : List Vertex → TaskId → Option TaskState
 task_at vs t = option_and_then (λ x. task_of x t.index) (slice_get vs t.vertex.0)

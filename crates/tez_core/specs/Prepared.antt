@@ -12,7 +12,7 @@ use Rattle.tez_vertex.specs.Table.{new_tasks}
 use Rattle.tez_vertex.specs.Vertex.{Vertex}
 use Rattle.tez_router.specs.Admission.{AdmissionState, FitsRouter}
 use Rattle.tez_schedule.specs.Table.{configures_at}
-use Rattle.tez_master_view.specs.State.{MasterState}
+use Rattle.tez_master_model.specs.State.{MasterState}
 
 pub record NewConfigState : Type 0 where
   pub vertex : VertexId

@@ -6,8 +6,8 @@ ghost use Rattle.tez_task.specs.TaskState.{HasRoom};
 ghost use Rattle.tez_task.specs.declared.TaskEvent.{TaskEvent};
 ghost use Rattle.tez_pool.specs.Table.{place_held};
 ghost use Rattle.tez_schedule.specs.Table.{is_task};
-ghost use Rattle.tez_master_view.specs.Read.{task_in, source_in};
-ghost use Rattle.tez_master_view.specs.Settled.{settled, killed, without_node, withdrawn, unreadied, with_location, released, after_fetch, after_done, slot_in};
+ghost use Rattle.tez_master_model.specs.Read.{task_in, source_in};
+ghost use Rattle.tez_master_model.specs.Settled.{settled, killed, without_node, withdrawn, unreadied, with_location, released, after_fetch, after_done, slot_in};
 
 use crate::flags::{clear_all, set_flag};
 use crate::locations::{drop_slot, set_location};

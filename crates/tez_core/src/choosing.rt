@@ -8,8 +8,8 @@ ghost use Rattle.tez_vertex.specs.Table.{task_of};
 ghost use Rattle.tez_pool.specs.Index.{held_at};
 ghost use Rattle.tez_pool.specs.Victim.{AreIn, IsGreatest, candidates};
 ghost use Rattle.tez_schedule.specs.Table.{next_configure};
-ghost use Rattle.tez_master_view.specs.Read.{is_on_slot};
-ghost use Rattle.tez_master_view.specs.Choice.{first_without, ready_choice, commit_choice, publish_choice, finish_choice};
+ghost use Rattle.tez_master_model.specs.Read.{is_on_slot};
+ghost use Rattle.tez_master_model.specs.Choice.{first_without, ready_choice, commit_choice, publish_choice, finish_choice};
 ghost use Rattle.tez_core.specs.Choosing.{queued_one, queued_at, count_at, work_choice, end_choice, lost_at};
 
 use crate::parts::Core;

@@ -2,9 +2,9 @@
 ghost use Rattle.std.specs.Prelude.{◌≡◌, true, IfSome, OnOk, OnErr};
 ghost use Rattle.tez_events.specs.declared.CoreEvent.{CoreEvent};
 ghost use Rattle.tez_schedule.specs.Table.{configures_at, can_configure};
-ghost use Rattle.tez_master_view.specs.Read.{piece_in};
-ghost use Rattle.tez_master_view.specs.Settled.{settled};
-ghost use Rattle.tez_master_view.specs.Steady.{CanHaveConfig};
+ghost use Rattle.tez_master_model.specs.Read.{piece_in};
+ghost use Rattle.tez_master_model.specs.Settled.{settled};
+ghost use Rattle.tez_master_model.specs.Steady.{CanHaveConfig};
 
 use crate::parts::Core;
 use crate::sinks::target_of;

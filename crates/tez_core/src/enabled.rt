@@ -1,14 +1,14 @@
 //! Which events may come, and why another one may not.
 ghost use Rattle.std.specs.Prelude.{◌≡◌};
 ghost use Rattle.tez_events.specs.declared.CoreEvent.{CoreEvent};
-ghost use Rattle.tez_master_view.specs.Read.{is_shallower_queued, depth_in};
-ghost use Rattle.tez_master_view.specs.Enabled.{enabled_in, is_lost, or_not_enabled, why_not};
+ghost use Rattle.tez_master_model.specs.Read.{is_shallower_queued, depth_in};
+ghost use Rattle.tez_master_model.specs.Enabled.{enabled_in, is_lost, or_not_enabled, why_not};
 
 use crate::parts::Core;
 use crate::shallower::{any_shallower, depth_of};
 use tez_events::CoreEvent;
 use tez_ids::{AttemptId, EdgeId, TaskId, VertexId};
-use tez_master_view::Why;
+use tez_master_model::Why;
 
 // An attempt that is there is no ground of its own.
 fn or_not_enabled(why: Option<Why>) -> Why

@@ -2,10 +2,10 @@
 ghost use Rattle.std.specs.Prelude.{◌≡◌, ◌<◌, false, map, length, replicate, IfOk, IfErr};
 ghost use Rattle.tez_plan.specs.Dag.{vertex};
 ghost use Rattle.tez_vertex.specs.Table.{new_vertex};
-ghost use Rattle.tez_vertex_view.specs.View.{new_vertices};
+ghost use Rattle.tez_master_model.specs.Vertices.{new_vertices};
 ghost use Rattle.tez_router.specs.Planned.{planned_router};
 ghost use Rattle.tez_schedule.specs.Planned.{planned_schedule};
-ghost use Rattle.tez_core.specs.Fresh.{fresh, no_locations};
+ghost use Rattle.tez_master_model.specs.Fresh.{fresh, no_locations};
 
 use crate::locations::Locations;
 use crate::parts::Core;

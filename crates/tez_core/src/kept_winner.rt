@@ -1,6 +1,6 @@
 //! A winner that a new master keeps.
 ghost use Rattle.std.specs.Prelude.{◌≡◌};
-ghost use Rattle.tez_recovery.specs.Recovery.{slot_kept};
+ghost use Rattle.tez_master_model.specs.Recovery.{slot_kept};
 
 use std::marker::Model;
 use tez_ids::{AttemptId, EdgeId, NodeId};
@@ -15,7 +15,7 @@ pub struct Kept {
 }
 
 impl Model for Kept {
-    ghost use Rattle.tez_recovery.specs.Recovery.{KeptState};
+    ghost use Rattle.tez_master_model.specs.Recovery.{KeptState};
 
     ghost Value = { KeptState };
 

@@ -1,7 +1,7 @@
 //! Where the pieces of the tasks' winners lie.
 ghost use Rattle.std.specs.Prelude.{◌≡◌, None, map, unwrap_or, slice_get, slice_set, replicate, IfOk};
 ghost use Rattle.tez_lists.specs.Tables.{set_in};
-ghost use Rattle.tez_master_view.specs.Settled.{on_no_slot};
+ghost use Rattle.tez_master_model.specs.Settled.{on_no_slot};
 ghost use Rattle.tez_core.specs.Parts.{location_at};
 
 use std::alloc::{AllocError, Global};

@@ -1,7 +1,7 @@
 //! The tasks of a vertex that is configured.
 ghost use Rattle.std.specs.Prelude.{◌≡◌, IfOk};
 ghost use Rattle.tez_vertex.specs.Table.{new_tasks, after_configure};
-ghost use Rattle.tez_vertex_view.specs.View.{change};
+ghost use Rattle.tez_master_model.specs.Vertices.{change};
 ghost use Rattle.tez_core.specs.Prepared.{new_tasks_at};
 
 use std::alloc::{AllocError, Global};

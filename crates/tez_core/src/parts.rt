@@ -28,7 +28,7 @@ pub struct Core {
 }
 
 impl Model for Core {
-    ghost use Rattle.tez_master_view.specs.State.{MasterState};
+    ghost use Rattle.tez_master_model.specs.State.{MasterState};
 
     ghost Value = { MasterState };
 

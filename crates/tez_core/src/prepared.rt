@@ -3,9 +3,9 @@ ghost use Rattle.std.specs.Prelude.{◌≡◌, None, IfOk, IfSome};
 ghost use Rattle.tez_events.specs.declared.CoreEvent.{CoreEvent};
 ghost use Rattle.tez_task.specs.TaskState.{HasRoom};
 ghost use Rattle.tez_pool.specs.Table.{place_held};
-ghost use Rattle.tez_master_view.specs.Read.{task_in};
-ghost use Rattle.tez_master_view.specs.Settled.{settled};
-ghost use Rattle.tez_master_view.specs.Steady.{CanHaveConfig};
+ghost use Rattle.tez_master_model.specs.Read.{task_in};
+ghost use Rattle.tez_master_model.specs.Settled.{settled};
+ghost use Rattle.tez_master_model.specs.Steady.{CanHaveConfig};
 ghost use Rattle.tez_core.specs.Prepared.{tasks_for, IsPreparedFor, IsAdmissionFor};
 
 use crate::new_tasks::{new_tasks, set_tasks};

@@ -4,8 +4,8 @@ ghost use Rattle.std.specs.Option.{option_map};
 ghost use Rattle.tez_task.specs.TaskState.{HasRoom};
 ghost use Rattle.tez_pool.specs.Table.{place_held};
 ghost use Rattle.tez_schedule.specs.Table.{config_at, progress_at, is_task};
-ghost use Rattle.tez_master_view.specs.Enabled.{why_in};
-ghost use Rattle.tez_master_view.specs.Read.{task_in, state_in, winner_in, next_in, is_in_queue, is_at_place, is_at_work, is_queued, waits, processes, free_place, is_free_place, location_in, is_on_shelf, source_in, are_done, first_sink, all_sinks, is_running};
+ghost use Rattle.tez_master_model.specs.Enabled.{why_in};
+ghost use Rattle.tez_master_model.specs.Read.{task_in, state_in, winner_in, next_in, is_in_queue, is_at_place, is_at_work, is_queued, waits, processes, free_place, is_free_place, location_in, is_on_shelf, source_in, are_done, first_sink, all_sinks, is_running};
 
 use crate::locations::location_at;
 use crate::parts::Core;
@@ -13,7 +13,7 @@ use crate::sinks::{are_all_done, has_edge_out, is_first_open, target_of};
 use crate::tasks::{has_room, next_of, state_of, why_of, winner_of};
 use tez_attempt::AttemptState;
 use tez_ids::{AttemptId, EdgeId, NodeId, TaskId, VertexId};
-use tez_master_view::Why;
+use tez_master_model::Why;
 use tez_vman::Config;
 
 pub(crate) fn is_in_queue(state: Option<AttemptState>) -> bool

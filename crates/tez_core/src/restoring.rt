@@ -3,11 +3,11 @@ ghost use Rattle.std.specs.Prelude.{◌≡◌, true, None, Some, OnOk, OnErr, If
 ghost use Rattle.tez_vertex.specs.Table.{IsFresh, task_of, after_restore};
 ghost use Rattle.tez_router.specs.Configure.{CanConfigure};
 ghost use Rattle.tez_schedule.specs.Table.{can_configure};
-ghost use Rattle.tez_vertex_view.specs.View.{carry_one, failures_in, keep_one};
-ghost use Rattle.tez_master_view.specs.Read.{task_in};
-ghost use Rattle.tez_master_view.specs.Settled.{with_config};
+ghost use Rattle.tez_master_model.specs.Vertices.{carry_one, failures_in, keep_one};
+ghost use Rattle.tez_master_model.specs.Read.{task_in};
+ghost use Rattle.tez_master_model.specs.Settled.{with_config};
 ghost use Rattle.tez_core.specs.Parts.{task_at};
-ghost use Rattle.tez_recovery.specs.Recovery.{carried, kept, IsNew, CanBeKept};
+ghost use Rattle.tez_master_model.specs.Recovery.{carried, kept, IsNew, CanBeKept};
 
 use crate::kept_winner::Kept;
 use crate::locations::set_location;

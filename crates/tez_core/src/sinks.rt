@@ -5,7 +5,7 @@ ghost use Rattle.std.specs.Option.{option_map};
 ghost use Rattle.tez_plan.specs.Dag.{source_of, target_of};
 ghost use Rattle.tez_history.specs.Shape.{has_sink, has_edge_out, sinks};
 ghost use Rattle.tez_history.specs.Steps.{is_first_without};
-ghost use Rattle.tez_master_view.specs.Read.{flag};
+ghost use Rattle.tez_master_model.specs.Read.{flag};
 
 use tez_ids::{EdgeId, VertexId};
 use tez_plan::Plan;

@@ -4,13 +4,13 @@ ghost use Rattle.std.specs.Option.{option_map_or};
 ghost use Rattle.tez_task.specs.Table.{state_of, next_of};
 ghost use Rattle.tez_vertex.specs.Table.{task_of, after_take};
 ghost use Rattle.tez_task.specs.TaskState.{HasRoom};
-ghost use Rattle.tez_vertex_view.specs.View.{take_in};
-ghost use Rattle.tez_master_view.specs.Enabled.{why_by, why_of_task};
+ghost use Rattle.tez_master_model.specs.Vertices.{take_in};
+ghost use Rattle.tez_master_model.specs.Enabled.{why_by, why_of_task};
 ghost use Rattle.tez_core.specs.Parts.{task_at};
 
 use tez_attempt::AttemptState;
 use tez_ids::{AttemptId, Epoch, TaskId};
-use tez_master_view::Why;
+use tez_master_model::Why;
 use tez_task::TaskEvent;
 use tez_vertex::VertexMachine;
 

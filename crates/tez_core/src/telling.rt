@@ -5,8 +5,8 @@ ghost use Rattle.tez_task.specs.Table.{is_last};
 ghost use Rattle.tez_pool.specs.Table.{held_on};
 ghost use Rattle.tez_router.specs.Table.{notices_in, without};
 ghost use Rattle.tez_schedule.specs.Table.{configures_at};
-ghost use Rattle.tez_master_view.specs.Read.{lost_in};
-ghost use Rattle.tez_master_view.specs.Entries.{container_in, is_last_in, next_life};
+ghost use Rattle.tez_master_model.specs.Read.{lost_in};
+ghost use Rattle.tez_master_model.specs.Entries.{container_in, is_last_in, next_life};
 ghost use Rattle.tez_core.specs.Parts.{task_at};
 
 use crate::lost::lost_with;

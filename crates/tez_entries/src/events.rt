@@ -1,7 +1,7 @@
 //! The entries of an event.
 ghost use Rattle.std.specs.Prelude.{◌≡◌, ◌∷◌, [], IfOk, Some};
 ghost use Rattle.tez_events.specs.declared.CoreEvent.{CoreEvent};
-ghost use Rattle.tez_master_view.specs.Entries.{entries_in, fetch_in};
+ghost use Rattle.tez_master_model.specs.Entries.{entries_in, fetch_in};
 ghost use Rattle.tez_entries.specs.Ranges.{CanTell};
 
 use crate::loss::node_lost;

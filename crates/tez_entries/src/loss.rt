@@ -3,7 +3,7 @@ ghost use Rattle.std.specs.Prelude.{◌≡◌, ◌++◌, IfOk, OnOk};
 ghost use Rattle.std.specs.List.{flat_map};
 ghost use Rattle.tez_events.specs.declared.CoreEvent.{CoreEvent};
 ghost use Rattle.tez_router.specs.Table.{without};
-ghost use Rattle.tez_master_view.specs.Entries.{entries_in, node_loss_in, kill_in, withdrawal_in};
+ghost use Rattle.tez_master_model.specs.Entries.{entries_in, node_loss_in, kill_in, withdrawal_in};
 ghost use Rattle.tez_entries.specs.Ranges.{HasLife};
 
 use crate::withdrawal::add_withdrawal;

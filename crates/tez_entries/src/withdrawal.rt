@@ -1,6 +1,6 @@
 //! The entries of a withdrawal.
 ghost use Rattle.std.specs.Prelude.{◌≡◌, ◌++◌, OnOk, map};
-ghost use Rattle.tez_router_view.specs.Events.{notice_entry};
+ghost use Rattle.tez_master_model.specs.Entries.{notice_entry};
 ghost use Rattle.tez_entries.specs.Lines.{withdrawal_by};
 
 use std::alloc::AllocError;

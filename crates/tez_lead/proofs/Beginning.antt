@@ -14,14 +14,14 @@ use Rattle.tez_conf.specs.declared.values.ConfValues.{ConfValues}
 use Rattle.tez_task.specs.TaskState.{TaskState}
 use Rattle.tez_vertex.specs.Vertex.{Vertex}
 use Rattle.tez_vertex.specs.Table.{new_vertex, task_of}
-use Rattle.tez_vertex_view.specs.View.{new_vertices}
+use Rattle.tez_master_model.specs.Vertices.{new_vertices}
 use Rattle.tez_pool.specs.State.{PoolState}
 use Rattle.tez_pool.specs.Victim.{AreIn}
 use Rattle.tez_schedule.specs.Kept.{Layout, layout, planned_at}
 use Rattle.tez_schedule.specs.Planned.{planned_vertex, planned_schedule}
 use Rattle.tez_queue.specs.Queue.{Queue, empty_queue}
-use Rattle.tez_master_view.specs.State.{MasterState}
-use Rattle.tez_core.specs.Fresh.{fresh}
+use Rattle.tez_master_model.specs.State.{MasterState}
+use Rattle.tez_master_model.specs.Fresh.{fresh}
 use Rattle.tez_core.specs.Parts.{task_at}
 use Rattle.tez_core.specs.Choosing.{queued_one}
 use Rattle.tez_lead.specs.Kept.{IsVertex, AreVertices, IsKept, is_waiting, queue_of}

@@ -15,13 +15,13 @@ use Rattle.tez_task.specs.TaskState.{TaskState}
 use Rattle.tez_task.specs.Table.{new_task}
 use Rattle.tez_vertex.specs.Vertex.{Vertex}
 use Rattle.tez_vertex.specs.Table.{task_of, new_tasks, after_configure}
-use Rattle.tez_vertex_view.specs.View.{change}
+use Rattle.tez_master_model.specs.Vertices.{change}
 use Rattle.tez_schedule.specs.State.{VertexState}
 use Rattle.tez_schedule.specs.Kept.{layout, planned_at}
 use Rattle.tez_schedule.specs.Table.{configures_at, configured_with, can_have, can_configure}
 use Rattle.tez_queue.specs.Queue.{Queue as Waiting}
-use Rattle.tez_master_view.specs.State.{MasterState}
-use Rattle.tez_master_view.specs.Settled.{settled, with_config}
+use Rattle.tez_master_model.specs.State.{MasterState}
+use Rattle.tez_master_model.specs.Settled.{settled, with_config}
 use Rattle.tez_core.specs.Choosing.{queued_one}
 use Rattle.tez_lead.specs.Kept.{IsTask, IsVertex, AreVertices, IsKept, is_waiting}
 use Rattle.tez_lead.proofs.Lists.{tells, long_map}

@@ -26,10 +26,10 @@ use Rattle.tez_queue.specs.Queue.{Queue, row_of, flag, queued_of as queued_row, 
 use Rattle.tez_queue.proofs.ListLemmas.{map-flat}
 use Rattle.tez_queue.proofs.Shallowest.{shallowest}
 use Rattle.tez_queue.proofs.DepthLemmas.{shallow}
-use Rattle.tez_pool_view.proofs.Pairs.{in-flat-out, in-filter-passes, in_numbers, in-numbers-out, any_in, any_none}
-use Rattle.tez_master_view.specs.State.{MasterState}
-use Rattle.tez_master_view.specs.Read.{is_in_queue, queued_of, queued_in, depth_in, is_shallower_queued}
-use Rattle.tez_master_view.specs.Choice.{first_queued}
+use Rattle.tez_master_model.proofs.Pairs.{in-flat-out, in-filter-passes, in_numbers, in-numbers-out, any_in, any_none}
+use Rattle.tez_master_model.specs.State.{MasterState}
+use Rattle.tez_master_model.specs.Read.{is_in_queue, queued_of, queued_in, depth_in, is_shallower_queued}
+use Rattle.tez_master_model.specs.Choice.{first_queued}
 use Rattle.tez_core.specs.Parts.{task_at}
 use Rattle.tez_core.specs.Choosing.{queued_one, queued_at}
 use Rattle.tez_lead.specs.Kept.{IsTask, IsVertex, AreVertices, IsKept, is_waiting, queue_of}

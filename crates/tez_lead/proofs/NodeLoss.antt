@@ -19,15 +19,15 @@ use Rattle.tez_task.specs.TaskState.{TaskState, HasRoom}
 use Rattle.tez_task.specs.Table.{task_after}
 use Rattle.tez_vertex.specs.Vertex.{Vertex}
 use Rattle.tez_vertex.specs.Table.{task_of, take_by, after_take}
-use Rattle.tez_vertex_view.specs.View.{change_by, take_in}
+use Rattle.tez_master_model.specs.Vertices.{change_by, take_in}
 use Rattle.tez_pool.specs.declared.place.Place.{Place}
 use Rattle.tez_pool.specs.Index.{held_at}
 use Rattle.tez_pool.specs.Table.{who, held_on}
-use Rattle.tez_pool_view.proofs.Pairs.{Pairwise, pairwise-flat, pairwise-numbers, in-map-out}
+use Rattle.tez_master_model.proofs.Pairs.{Pairwise, pairwise-flat, pairwise-numbers, in-map-out}
 use Rattle.tez_queue.proofs.ListLemmas.{filter-flat, length_numbers}
-use Rattle.tez_master_view.specs.State.{MasterState}
-use Rattle.tez_master_view.specs.Read.{task_in, winner_in, location_in, is_on_slot, winners_in, lost_in}
-use Rattle.tez_master_view.specs.Settled.{killed, withdrawn, without_node, after_node_loss}
+use Rattle.tez_master_model.specs.State.{MasterState}
+use Rattle.tez_master_model.specs.Read.{task_in, winner_in, location_in, is_on_slot, winners_in, lost_in}
+use Rattle.tez_master_model.specs.Settled.{killed, withdrawn, without_node, after_node_loss}
 use Rattle.tez_core.specs.Parts.{task_at}
 use Rattle.tez_core.specs.Choosing.{count_at, lost_by, lost_at}
 use Rattle.tez_lead.specs.Kept.{IsTask, AreVertices}

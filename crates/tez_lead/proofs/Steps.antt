@@ -15,7 +15,7 @@ use Rattle.tez_task.specs.declared.TaskEvent.{TaskEvent}
 use Rattle.tez_task.specs.declared.TaskEvent.TheVariants as task_event
 use Rattle.tez_vertex.specs.Vertex.{Vertex}
 use Rattle.tez_vertex.specs.Table.{task_of}
-use Rattle.tez_vertex_view.specs.View.{take_in}
+use Rattle.tez_master_model.specs.Vertices.{take_in}
 use Rattle.tez_pool.specs.State.{PoolState}
 use Rattle.tez_pool.specs.Victim.{AreIn}
 use Rattle.tez_pool.specs.Table.{after_place, after_sent, after_release, after_loss}
@@ -25,10 +25,10 @@ use Rattle.tez_schedule.specs.Kept.{layout, planned_at}
 use Rattle.tez_schedule.specs.Table.{scheduled_with}
 use Rattle.tez_lead.proofs.Layouts.{layout_changed, layout_winner}
 use Rattle.tez_queue.specs.Queue.{Queue as Waiting, with_task}
-use Rattle.tez_master_view.specs.State.{MasterState}
-use Rattle.tez_master_view.specs.Read.{is_queued, is_in_queue, state_in, is_on_shelf, source_in}
+use Rattle.tez_master_model.specs.State.{MasterState}
+use Rattle.tez_master_model.specs.Read.{is_queued, is_in_queue, state_in, is_on_shelf, source_in}
 use Rattle.tez_task.specs.Table.{state_of}
-use Rattle.tez_master_view.specs.Settled.{settled, killed, withdrawn, released, without_node, after_fetch, after_done}
+use Rattle.tez_master_model.specs.Settled.{settled, killed, withdrawn, released, without_node, after_fetch, after_done}
 use Rattle.tez_core.specs.Parts.{task_at}
 use Rattle.tez_core.specs.Choosing.{queued_at}
 use Rattle.tez_lead.specs.Kept.{AreVertices, IsFit, IsKept, queue_of}

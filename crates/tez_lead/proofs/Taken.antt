@@ -13,14 +13,14 @@ use Rattle.tez_task.specs.TaskState.{TaskState}
 use Rattle.tez_task.specs.Table.{restored}
 use Rattle.tez_vertex.specs.Vertex.{Vertex}
 use Rattle.tez_vertex.specs.Table.{task_of, restore_by, after_restore, IsFresh}
-use Rattle.tez_vertex_view.specs.View.{change, change_by, carry_one, failures_in, AreRestorable}
-use Rattle.tez_vertex_view.proofs.Fresh.{configured_fresh, carried_fresh}
+use Rattle.tez_master_model.specs.Vertices.{change, change_by, carry_one, failures_in, AreRestorable}
+use Rattle.tez_master_model.proofs.Restorable.{configured_fresh, carried_fresh}
 use Rattle.tez_schedule.specs.State.{VertexState}
 use Rattle.tez_schedule.specs.Table.{changed_at, scheduled_with}
-use Rattle.tez_master_view.specs.State.{MasterState}
+use Rattle.tez_master_model.specs.State.{MasterState}
 use Rattle.tez_core.specs.Parts.{task_at}
 use Rattle.tez_core.specs.Choosing.{count_at}
-use Rattle.tez_recovery.specs.Recovery.{KeptState, config_in, stood, carried, kept, all_stood, all_carried, all_kept, CanStand, CanBeCarried, CanBeKept, AllCanStand, AllCanBeCarried, AllCanBeKept, IsNew}
+use Rattle.tez_master_model.specs.Recovery.{KeptState, config_in, stood, carried, kept, all_stood, all_carried, all_kept, CanStand, CanBeCarried, CanBeKept, AllCanStand, AllCanBeCarried, AllCanBeKept, IsNew}
 use Rattle.tez_lead.specs.Kept.{IsTask, IsVertex}
 use Rattle.tez_lead.proofs.Lists.{tells, set_here, set_elsewhere}
 use Rattle.tez_lead.proofs.Tasks.{change_none, at_vertex, changed_elsewhere, vertices_change}

@@ -20,7 +20,7 @@ use Rattle.tez_task.specs.TaskState.{TaskState}
 use Rattle.tez_task.specs.Table.{moved_live, is_winner, is_last, queued_again, advanced, succeeded, failed, killed, after_event, task_after}
 use Rattle.tez_vertex.specs.Vertex.{Vertex}
 use Rattle.tez_vertex.specs.Table.{task_of, take_by, after_take}
-use Rattle.tez_vertex_view.specs.View.{change, change_by, take_in}
+use Rattle.tez_master_model.specs.Vertices.{change, change_by, take_in}
 use Rattle.tez_core.specs.Parts.{task_at}
 use Rattle.tez_lead.specs.Kept.{IsTask, IsVertex, AreVertices}
 use Rattle.tez_lead.proofs.Lists.{tells, set_here, set_elsewhere}

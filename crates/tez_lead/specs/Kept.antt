@@ -20,7 +20,7 @@ use Rattle.tez_vertex.specs.Vertex.{Vertex}
 use Rattle.tez_pool.specs.Victim.{AreIn}
 use Rattle.tez_schedule.specs.Kept.{layout, planned_at}
 use Rattle.tez_queue.specs.Queue.{Queue}
-use Rattle.tez_master_view.specs.State.{MasterState}
+use Rattle.tez_master_model.specs.State.{MasterState}
 use Rattle.tez_core.specs.Choosing.{queued_at}
 
 abbrev pub is_waiting : List Vertex → ℕ → ℕ → Bool

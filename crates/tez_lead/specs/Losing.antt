@@ -12,10 +12,10 @@ use Rattle.tez_ids.specs.declared.AttemptId.{AttemptId}
 use Rattle.tez_ids.specs.Same.{task}
 use Rattle.tez_lists.specs.Numbers.{numbers_from}
 use Rattle.tez_pool.specs.Index.{held_at}
-use Rattle.tez_master_view.specs.State.{MasterState}
+use Rattle.tez_master_model.specs.State.{MasterState}
 use Rattle.tez_pool.specs.Table.{held_on}
-use Rattle.tez_master_view.specs.Read.{task_in, lost_in}
-use Rattle.tez_master_view.specs.Settled.{killed, withdrawn}
+use Rattle.tez_master_model.specs.Read.{task_in, lost_in}
+use Rattle.tez_master_model.specs.Settled.{killed, withdrawn}
 use Rattle.tez_core.specs.Choosing.{count_at, lost_at}
 
 abbrev pub killed_by : MasterState → Option AttemptId → MasterState

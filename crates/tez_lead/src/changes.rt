@@ -5,9 +5,9 @@ ghost use Rattle.tez_task.specs.TaskState.{HasRoom};
 ghost use Rattle.tez_pool.specs.Table.{place_held};
 ghost use Rattle.tez_schedule.specs.Table.{is_task};
 ghost use Rattle.tez_queue.specs.Queue.{with_task};
-ghost use Rattle.tez_master_view.specs.Read.{task_in, source_in, is_queued};
-ghost use Rattle.tez_master_view.specs.Settled.{settled, killed, without_node, withdrawn, after_done};
-ghost use Rattle.tez_master_view.specs.Steady.{CanHaveConfig};
+ghost use Rattle.tez_master_model.specs.Read.{task_in, source_in, is_queued};
+ghost use Rattle.tez_master_model.specs.Settled.{settled, killed, without_node, withdrawn, after_done};
+ghost use Rattle.tez_master_model.specs.Steady.{CanHaveConfig};
 ghost use Rattle.tez_core.specs.Choosing.{queued_at};
 ghost use Rattle.tez_core.specs.Prepared.{IsPreparedFor, IsAdmissionFor};
 

@@ -3,8 +3,8 @@ ghost use Rattle.std.specs.Prelude.{◌≡◌, Option};
 ghost use Rattle.std.specs.Option.{option_map};
 ghost use Rattle.tez_ids.specs.declared.AttemptId.{AttemptId};
 ghost use Rattle.tez_events.specs.declared.CoreEvent.{CoreEvent};
-ghost use Rattle.tez_master_view.specs.Choice.{first_queued, place_choice, running_choice, choice_in};
-ghost use Rattle.tez_master_view.specs.Laws.{IsVictim};
+ghost use Rattle.tez_master_model.specs.Choice.{first_queued, place_choice, running_choice, choice_in};
+ghost use Rattle.tez_master_model.specs.Victim.{IsVictim};
 
 use crate::parts::Lead;
 use tez_events::CoreEvent;

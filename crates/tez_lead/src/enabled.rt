@@ -1,13 +1,13 @@
 //! Which events may come, and why another one may not.
 ghost use Rattle.std.specs.Prelude.{◌≡◌};
 ghost use Rattle.tez_events.specs.declared.CoreEvent.{CoreEvent};
-ghost use Rattle.tez_master_view.specs.Read.{is_shallower_queued, depth_in};
-ghost use Rattle.tez_master_view.specs.Enabled.{enabled_in, why_not};
+ghost use Rattle.tez_master_model.specs.Read.{is_shallower_queued, depth_in};
+ghost use Rattle.tez_master_model.specs.Enabled.{enabled_in, why_not};
 
 use crate::parts::Lead;
 use tez_events::CoreEvent;
 use tez_ids::AttemptId;
-use tez_master_view::Why;
+use tez_master_model::Why;
 
 impl Lead {
     /// Whether an event may come now. To open and to restart is not the master's. Takes time in the

@@ -1,9 +1,9 @@
 //! The parts of a master that begins.
 ghost use Rattle.std.specs.Prelude.{◌≡◌, IfOk, IfErr};
 ghost use Rattle.tez_pool.specs.Victim.{AreIn};
-ghost use Rattle.tez_vertex_view.specs.View.{AreRestorable};
-ghost use Rattle.tez_recovery.specs.Recovery.{found, CanBeFound};
-ghost use Rattle.tez_core.specs.Fresh.{fresh};
+ghost use Rattle.tez_master_model.specs.Vertices.{AreRestorable};
+ghost use Rattle.tez_master_model.specs.Recovery.{found, CanBeFound};
+ghost use Rattle.tez_master_model.specs.Fresh.{fresh};
 
 use crate::parts::Lead;
 use std::alloc::Global;

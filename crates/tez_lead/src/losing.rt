@@ -3,8 +3,8 @@ ghost use Rattle.std.specs.Prelude.{◌≡◌, ℕ, ◌+◌, ◌<◌, ◌^◌, l
 ghost use Rattle.std.specs.List.{fold};
 ghost use Rattle.tez_events.specs.declared.CoreEvent.{CoreEvent};
 ghost use Rattle.tez_pool.specs.Table.{held_on};
-ghost use Rattle.tez_master_view.specs.Read.{lost_in};
-ghost use Rattle.tez_master_view.specs.Settled.{settled, killed, withdrawn};
+ghost use Rattle.tez_master_model.specs.Read.{lost_in};
+ghost use Rattle.tez_master_model.specs.Settled.{settled, killed, withdrawn};
 ghost use Rattle.tez_lead.specs.Losing.{killed_at, withdrawn_at, tasks_in, emptied, RoomsBelow, HasRooms};
 
 use crate::parts::Lead;

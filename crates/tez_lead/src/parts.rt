@@ -12,7 +12,7 @@ pub struct Lead {
 }
 
 impl Model for Lead {
-    ghost use Rattle.tez_master_view.specs.State.{MasterState};
+    ghost use Rattle.tez_master_model.specs.State.{MasterState};
     ghost use Rattle.tez_lead.specs.Kept.{IsKept};
 
     ghost Value = { MasterState };

@@ -1,8 +1,8 @@
 //! What a new master takes over from those before it: the tasks of vertices, then the failures of
 //! tasks, and then the winners that are kept.
 ghost use Rattle.std.specs.Prelude.{◌≡◌, OnOk, OnErr, IfSome};
-ghost use Rattle.tez_vertex_view.specs.View.{AreRestorable};
-ghost use Rattle.tez_recovery.specs.Recovery.{stood, carried, kept, all_stood, all_carried, all_kept, going_on, found, CanStand, CanBeCarried, CanBeKept, AllCanStand, AllCanBeCarried, AllCanBeKept, CanGoOn, CanBeFound};
+ghost use Rattle.tez_master_model.specs.Vertices.{AreRestorable};
+ghost use Rattle.tez_master_model.specs.Recovery.{stood, carried, kept, all_stood, all_carried, all_kept, going_on, found, CanStand, CanBeCarried, CanBeKept, AllCanStand, AllCanBeCarried, AllCanBeKept, CanGoOn, CanBeFound};
 
 use crate::changes::refresh;
 use crate::parts::Lead;

@@ -6,7 +6,7 @@ use Rattle.tez_ids.specs.declared.EdgeId.{EdgeId}
 use Rattle.tez_events.specs.declared.Entry.{Entry}
 use Rattle.tez_events.specs.declared.Entry.TheVariants.{Succeeded}
 use Rattle.tez_history.specs.Steps.{done_entries}
-use Rattle.tez_master_view.specs.Laws.{bytes_of}
+use Rattle.tez_master_model.specs.Bytes.{bytes_of}
 use Rattle.tez_master.specs.Master.{made_line}
 
 pub report_lines : (a : AttemptId) (made : List (EdgeId × ℕ)) → Succeeded a ∷ map (made_line a) made ≡ done_entries a (map bytes_of made)

@@ -7,9 +7,9 @@ use Rattle.tez_ids.specs.declared.AttemptId.{AttemptId}
 use Rattle.tez_events.specs.declared.CoreEvent.{CoreEvent}
 use Rattle.tez_events.specs.declared.CoreEvent.TheVariants.{Open, Configure, Queue, Place, Fetch, Send, Preempt, Fail, LoseNode, LoseOutput, Restart, Ready, CommitStart, Publish, Finish, Purge}
 use Rattle.tez_task.specs.TaskState.{TaskState, HasRoom}
-use Rattle.tez_master_view.specs.State.{MasterState}
-use Rattle.tez_master_view.specs.Read.{task_in, is_queued}
-use Rattle.tez_master_view.specs.Enabled.{enabled_in}
+use Rattle.tez_master_model.specs.State.{MasterState}
+use Rattle.tez_master_model.specs.Read.{task_in, is_queued}
+use Rattle.tez_master_model.specs.Enabled.{enabled_in}
 use Rattle.tez_entries.specs.Ranges.{CanTell, HasLife}
 use Rattle.tez_master.specs.Master.{is_single, IsUnprepared, HasNumbers}
 

@@ -15,12 +15,12 @@ use Rattle.tez_events.specs.declared.Entry.TheVariants.{Made}
 use Rattle.tez_events.specs.declared.JournalRecord.{JournalRecord}
 use Rattle.tez_events.specs.declared.CoreEvent.{CoreEvent}
 use Rattle.tez_events.specs.declared.CoreEvent.TheVariants.{Open, Configure, Queue, Place, Fetch, Send, Preempt, Fail, LoseNode, LoseOutput, Restart, Ready, CommitStart, Publish, Finish, Purge}
-use Rattle.tez_master_view.specs.declared.why.Why.{Why}
-use Rattle.tez_master_view.specs.State.{MasterState}
-use Rattle.tez_master_view.specs.Read.{processes}
-use Rattle.tez_master_view.specs.Enabled.{enabled_in}
-use Rattle.tez_master_view.specs.Entries.{is_last_in}
-use Rattle.tez_master_view.specs.Settled.{settled, after_done}
+use Rattle.tez_master_model.specs.declared.why.Why.{Why}
+use Rattle.tez_master_model.specs.State.{MasterState}
+use Rattle.tez_master_model.specs.Read.{processes}
+use Rattle.tez_master_model.specs.Enabled.{enabled_in}
+use Rattle.tez_master_model.specs.Entries.{is_last_in}
+use Rattle.tez_master_model.specs.Settled.{settled, after_done}
 use Rattle.tez_core.specs.Prepared.{IsPreparedFor, IsAdmissionFor}
 use Rattle.tez_lead.specs.Losing.{HasRooms}
 use Rattle.tez_master.specs.declared.pending.Pending.{Pending}

@@ -3,9 +3,9 @@ ghost use Rattle.std.specs.Prelude.{◌≡◌, ◌++◌, true, map, Some, IfOk, 
 ghost use Rattle.tez_events.specs.declared.CoreEvent.{CoreEvent};
 ghost use Rattle.tez_events.specs.declared.Entry.{Entry};
 ghost use Rattle.tez_history.specs.Steps.{done_entries};
-ghost use Rattle.tez_master_view.specs.Enabled.{enabled_in, why_in};
-ghost use Rattle.tez_master_view.specs.Entries.{entries_in};
-ghost use Rattle.tez_master_view.specs.Laws.{bytes_of};
+ghost use Rattle.tez_master_model.specs.Enabled.{enabled_in, why_in};
+ghost use Rattle.tez_master_model.specs.Entries.{entries_in};
+ghost use Rattle.tez_master_model.specs.Bytes.{bytes_of};
 ghost use Rattle.tez_entries.specs.Ranges.{CanTell};
 ghost use Rattle.tez_entries.specs.Records.{records_of};
 ghost use Rattle.tez_master.specs.Master.{Took, ordered_in, spent_in, IsReadyFor, step_of, made_line};
@@ -17,7 +17,7 @@ use tez_core::Core;
 use tez_entries::{entries, records};
 use tez_events::{CoreEvent, Entry};
 use tez_ids::{AttemptId, EdgeId, TaskId};
-use tez_master_view::Why;
+use tez_master_model::Why;
 
 /// What an event has for effects which may come.
 pub(crate) fn effects(alloc: Global, m: &Core, e: &CoreEvent) -> Result<Effects, AllocError>

@@ -1,7 +1,7 @@
 //! What a master answers to an event.
 use tez_events::{Entry, JournalRecord};
 use tez_ids::{AttemptId, TaskId};
-use tez_master_view::Why;
+use tez_master_model::Why;
 
 /// What an event adds to the trace and to the journal, the attempt whose order goes out, and the
 /// task that it spends.

@@ -4,15 +4,15 @@ ghost use Rattle.std.specs.Option.{option_map};
 ghost use Rattle.tez_ids.specs.declared.AttemptId.{AttemptId as Attempt};
 ghost use Rattle.tez_pool.specs.Table.{place_held};
 ghost use Rattle.tez_schedule.specs.Table.{config_at, progress_at};
-ghost use Rattle.tez_master_view.specs.Enabled.{why_in};
-ghost use Rattle.tez_master_view.specs.Read.{winner_in, free_place, piece_in};
-ghost use Rattle.tez_master_view.specs.Choice.{choice_in};
-ghost use Rattle.tez_master_view.specs.Laws.{IsVictim};
+ghost use Rattle.tez_master_model.specs.Enabled.{why_in};
+ghost use Rattle.tez_master_model.specs.Read.{winner_in, free_place, piece_in};
+ghost use Rattle.tez_master_model.specs.Choice.{choice_in};
+ghost use Rattle.tez_master_model.specs.Victim.{IsVictim};
 
 use crate::master::Master;
 use tez_events::CoreEvent;
 use tez_ids::{AttemptId, EdgeId, NodeId, TaskId, VertexId};
-use tez_master_view::Why;
+use tez_master_model::Why;
 use tez_vman::Config;
 
 impl Master {

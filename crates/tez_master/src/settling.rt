@@ -1,8 +1,8 @@
 //! Answers are put into effect.
 ghost use Rattle.std.specs.Prelude.{◌≡◌, true, IsSome, None, Some};
-ghost use Rattle.tez_master_view.specs.Enabled.{enabled_in};
-ghost use Rattle.tez_master_view.specs.Settled.{settled};
-ghost use Rattle.tez_master_view.specs.Steady.{IsSteady};
+ghost use Rattle.tez_master_model.specs.Enabled.{enabled_in};
+ghost use Rattle.tez_master_model.specs.Settled.{settled};
+ghost use Rattle.tez_master_model.specs.Steady.{IsSteady};
 ghost use Rattle.tez_master.specs.Master.{Step, settled_by, step_of, IsUnprepared, IsReadyFor, HasNumbers};
 
 use crate::master::Master;

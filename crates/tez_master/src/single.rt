@@ -1,8 +1,8 @@
 //! Answers of one entry, which take no memory.
 ghost use Rattle.std.specs.Prelude.{◌≡◌, ◌∷◌, [], true, is_some, IfSome};
 ghost use Rattle.tez_events.specs.declared.CoreEvent.{CoreEvent};
-ghost use Rattle.tez_master_view.specs.Enabled.{enabled_in};
-ghost use Rattle.tez_master_view.specs.Entries.{entries_in};
+ghost use Rattle.tez_master_model.specs.Enabled.{enabled_in};
+ghost use Rattle.tez_master_model.specs.Entries.{entries_in};
 ghost use Rattle.tez_entries.specs.Ranges.{CanTell, HasLife};
 ghost use Rattle.tez_entries.specs.Records.{records_of};
 ghost use Rattle.tez_master.specs.Master.{is_single, as_list};

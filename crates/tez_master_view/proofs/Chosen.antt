@@ -14,16 +14,17 @@ use Rattle.tez_history.specs.Derived.{tasks, inputs, all_done, waiting_attempts,
 use Rattle.tez_history.specs.Steps.{enabled, is_running, is_first_without, by_depth, some_configure, some_queue, some_fetch, some_send, some_place, some_preempt, some_ready, some_publish, choice}
 use Rattle.tez_pool.specs.Victim.{candidates, IsGreatest, depth_of}
 use Rattle.tez_pool_view.specs.View.{place_for}
-use Rattle.tez_pool_view.proofs.Pairs.{find-map, find-same}
+use Rattle.tez_master_model.proofs.Pairs.{find-map, find-same}
 use Rattle.tez_pool_view.proofs.Choosing.{preempt_choice, preempt_free, preempt_unqueued, full_or_free, place_choice as free_place_given}
 use Rattle.tez_router_view.proofs.Choosing.{next_fetch_same, next_send_same}
 use Rattle.tez_schedule_view.proofs.Answering.{are_done_same, next_configure_same}
 use Rattle.tez_schedule_view.proofs.Queueing.{next_queue_same}
-use Rattle.tez_master_view.specs.State.{MasterState}
-use Rattle.tez_master_view.specs.Read.{free_place, queued_in, depth_in, flag, are_done}
-use Rattle.tez_master_view.specs.Choice.{or_else, place_choice, ready_choice, commit_choice, publish_choice, finish_choice, running_choice, choice_in}
+use Rattle.tez_master_model.specs.State.{MasterState}
+use Rattle.tez_master_model.specs.Read.{free_place, queued_in, depth_in, flag, are_done}
+use Rattle.tez_master_model.specs.Choice.{or_else, place_choice, ready_choice, commit_choice, publish_choice, finish_choice, running_choice, choice_in}
 use Rattle.tez_master_view.specs.View.{master_view}
-use Rattle.tez_master_view.specs.Laws.{Goes, IsVictim, IsVictimAt, IsVictimBy}
+use Rattle.tez_master_view.specs.Laws.{Goes}
+use Rattle.tez_master_model.specs.Victim.{IsVictim, IsVictimAt, IsVictimBy}
 use Rattle.tez_master_view.proofs.Firsts.{find_or, find_next, or_none, same_or, none_of, none_of_each, first_without_same, where_both, flag_at, all_same, placed_first}
 use Rattle.tez_master_view.proofs.FirstQueued.{queued_same, none_queued, first_is_least}
 

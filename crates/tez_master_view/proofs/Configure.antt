@@ -32,7 +32,7 @@ use Rattle.tez_schedule.specs.Table.{configures_at}
 use Rattle.tez_schedule_view.specs.View.{schedule_view}
 use Rattle.tez_schedule_view.proofs.Seeing.{configures_same}
 use Rattle.tez_schedule_view.proofs.ByEvent.{configure_view}
-use Rattle.tez_master_view.specs.Settled.{with_config}
+use Rattle.tez_master_model.specs.Settled.{with_config}
 use Rattle.tez_master_view.specs.View.{master_view}
 use Rattle.tez_master_view.specs.Laws.{Goes}
 use Rattle.tez_master_view.proofs.Simple.{Settles, settles}

@@ -24,8 +24,8 @@ use Rattle.tez_router_view.proofs.Reading.{source_read}
 use Rattle.tez_router_view.proofs.ByEvent.{fetch_marks, read_error_withdraws}
 use Rattle.tez_router_view.proofs.Winners.{won_vertex}
 use Rattle.tez_schedule_view.proofs.ByEvent.{fetched_view, error_view}
-use Rattle.tez_master_view.specs.Read.{is_on_shelf, is_on_slot, source_in}
-use Rattle.tez_master_view.specs.Settled.{after_fetch, withdrawn}
+use Rattle.tez_master_model.specs.Read.{is_on_shelf, is_on_slot, source_in}
+use Rattle.tez_master_model.specs.Settled.{after_fetch, withdrawn}
 use Rattle.tez_master_view.specs.View.{master_view, slot_by, locations_view}
 use Rattle.tez_master_view.specs.Laws.{Goes}
 use Rattle.tez_master_view.proofs.Own.{location_read, withdrawn_locations, withdrawn_readied, readied_view}

@@ -22,13 +22,13 @@ use Rattle.tez_history.specs.Follows.{IsMade, IsAlive}
 use Rattle.tez_laws.proofs.Tasks.{live_task}
 use Rattle.tez_pool.specs.Victim.{depth_of}
 use Rattle.tez_pool_view.specs.View.{IsLeastQueued}
-use Rattle.tez_pool_view.proofs.Pairs.{in-flat-out, in-filter-passes, in-numbers-out}
+use Rattle.tez_master_model.proofs.Pairs.{in-flat-out, in-filter-passes, in-numbers-out}
 use Rattle.tez_progress.proofs.Plans.{ranks}
 use Rattle.tez_progress.proofs.Stalled.{in_depth}
 use Rattle.tez_vertex_view.specs.View.{come, task_view, tasks_in, vertex_view}
 use Rattle.tez_vertex_view.proofs.Answering.{read_live}
 use Rattle.tez_vertex_view.proofs.Telling.{read_state, read_there, alive_there}
-use Rattle.tez_master_view.specs.Read.{is_in_queue, queued_of, queued_in}
+use Rattle.tez_master_model.specs.Read.{is_in_queue, queued_of, queued_in}
 use Rattle.tez_master_view.specs.View.{master_view}
 
 -- ---- the queued attempts of the tasks

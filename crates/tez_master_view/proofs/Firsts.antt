@@ -12,11 +12,11 @@ use Rattle.tez_events.specs.declared.CoreEvent.TheVariants.{Place}
 use Rattle.tez_history.specs.Shape.{vertices, sinks, has_sink}
 use Rattle.tez_history.specs.Steps.{is_first_without}
 use Rattle.tez_progress.proofs.Members.{first_fails, numbers_in}
-use Rattle.tez_vertex_view.proofs.Taking.{get_below}
+use Rattle.tez_master_model.proofs.Numbers.{get_below}
 use Rattle.tez_pool_view.specs.View.{place_for}
-use Rattle.tez_pool_view.proofs.Pairs.{find-map, find-nowhere}
-use Rattle.tez_master_view.specs.Read.{flag}
-use Rattle.tez_master_view.specs.Choice.{or_else}
+use Rattle.tez_master_model.proofs.Pairs.{find-map, find-nowhere}
+use Rattle.tez_master_model.specs.Read.{flag}
+use Rattle.tez_master_model.specs.Choice.{or_else}
 
 pub find_or : {X : Type 0} (p : X → Bool) (xs ys : List X) → find p (xs ++ ys) ≡ or_else (find p xs) (find p ys)
 find_or p [] ys = refl

@@ -30,13 +30,14 @@ use Rattle.tez_vertex_view.proofs.Telling.{alive_there, winner_there}
 use Rattle.tez_router.specs.State.{RouterState}
 use Rattle.tez_router.specs.Table.{notices_in, without}
 use Rattle.tez_router_view.specs.View.{router_view}
-use Rattle.tez_router_view.specs.Events.{notice_entry, withdrawal_lines, kill_lines, holders_on, winners_on}
+use Rattle.tez_master_model.specs.Entries.{notice_entry}
+use Rattle.tez_router_view.specs.Events.{withdrawal_lines, kill_lines, holders_on, winners_on}
 use Rattle.tez_router_view.proofs.Reading.{source_read}
 use Rattle.tez_router_view.proofs.ByEvent.{read_error_lines}
 use Rattle.tez_router_view.proofs.Losing.{node_loss_lines}
 use Rattle.tez_schedule_view.proofs.Answering.{configures_told}
-use Rattle.tez_master_view.specs.Read.{lost_in}
-use Rattle.tez_master_view.specs.Entries.{requeue_in, withdrawal_in, configured_in, fetch_in, is_last_in, next_life, kill_in, node_loss_in, output_lost_in, entries_in}
+use Rattle.tez_master_model.specs.Read.{lost_in}
+use Rattle.tez_master_model.specs.Entries.{requeue_in, withdrawal_in, configured_in, fetch_in, is_last_in, next_life, kill_in, node_loss_in, output_lost_in, entries_in}
 use Rattle.tez_master_view.specs.View.{master_view}
 use Rattle.tez_master_view.specs.Laws.{Goes, IsMasters}
 use Rattle.tez_master_view.proofs.TaskReadings.{task_read, winner_read, next_read}

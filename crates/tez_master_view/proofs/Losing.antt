@@ -39,9 +39,9 @@ use Rattle.tez_router_view.proofs.Losing.{node_loss_view}
 use Rattle.tez_router_view.proofs.ByEvent.{late_loss_leaves}
 use Rattle.tez_router_view.proofs.Winners.{won_vertex}
 use Rattle.tez_schedule_view.proofs.Losing.{lost_view, late_view}
-use Rattle.tez_master_view.specs.State.{MasterState}
-use Rattle.tez_master_view.specs.Read.{lost_in, winners_in, is_on_slot}
-use Rattle.tez_master_view.specs.Settled.{killed, withdrawn, without_node, on_no_slot}
+use Rattle.tez_master_model.specs.State.{MasterState}
+use Rattle.tez_master_model.specs.Read.{lost_in, winners_in, is_on_slot}
+use Rattle.tez_master_model.specs.Settled.{killed, withdrawn, without_node, on_no_slot}
 use Rattle.tez_master_view.specs.View.{master_view, locations_view}
 use Rattle.tez_master_view.specs.Laws.{Goes}
 use Rattle.tez_master_view.proofs.Parts.{killed_all, withdrawn_all, lose_location, unready}

@@ -23,7 +23,7 @@ use Rattle.tez_laws.proofs.StepLaw.{both, below}
 use Rattle.tez_vertex_view.proofs.Losing.{withdrawn_fact}
 use Rattle.tez_router_view.specs.View.{FitsPlan}
 use Rattle.tez_router_view.proofs.Winners.{won_vertex, won_task_there, withdrawn_winner}
-use Rattle.tez_master_view.specs.Settled.{on_no_slot}
+use Rattle.tez_master_model.specs.Settled.{on_no_slot}
 use Rattle.tez_master_view.specs.View.{slot_by, location_view, locations_view}
 use Rattle.tez_master_view.proofs.Parts.{lose_location, none_readied}
 

@@ -13,8 +13,8 @@ use Rattle.tez_router.specs.State.{RouterState}
 use Rattle.tez_router_view.specs.Events.{after_dismisses, after_withdraws}
 use Rattle.tez_schedule.specs.State.{ScheduleState}
 use Rattle.tez_schedule_view.specs.Events.{after_withdraws as unscheduled_wins}
-use Rattle.tez_master_view.specs.State.{MasterState}
-use Rattle.tez_master_view.specs.Settled.{killed, withdrawn}
+use Rattle.tez_master_model.specs.State.{MasterState}
+use Rattle.tez_master_model.specs.Settled.{killed, withdrawn}
 
 abbrev pub state : Dag → ConfValues → ℕ → List Vertex → PoolState → RouterState → ScheduleState → List (List (Option ℕ)) → List Bool → List Bool → Bool → Bool → Bool → MasterState
 state g c n vs p r s l x y a b u = record {

@@ -17,7 +17,7 @@ use Rattle.tez_router.specs.Table.{inputs_in, output_of, output_in}
 use Rattle.tez_router_view.specs.View.{router_view, links_view, link_view, routing_view}
 use Rattle.tez_router_view.proofs.Edges.{table_view, inputs_same}
 use Rattle.tez_router_view.proofs.Reading.{source_read}
-use Rattle.tez_master_view.specs.Read.{piece_in, source_in}
+use Rattle.tez_master_model.specs.Read.{piece_in, source_in}
 use Rattle.tez_master_view.specs.View.{master_view}
 use Rattle.tez_master_view.specs.Laws.{Goes}
 

@@ -18,9 +18,9 @@ use Rattle.tez_laws.proofs.Places.{known}
 use Rattle.tez_laws.proofs.Ranges.{scheduled_is_task}
 use Rattle.tez_vertex_view.specs.View.{live_view, come}
 use Rattle.tez_vertex_view.proofs.Telling.{read_state}
-use Rattle.tez_master_view.specs.declared.why.Why.TheVariants.{OldEpoch, UnknownAttempt}
-use Rattle.tez_master_view.specs.Read.{task_in}
-use Rattle.tez_master_view.specs.Enabled.{why_by, why_of_task, why_in}
+use Rattle.tez_master_model.specs.declared.why.Why.TheVariants.{OldEpoch, UnknownAttempt}
+use Rattle.tez_master_model.specs.Read.{task_in}
+use Rattle.tez_master_model.specs.Enabled.{why_by, why_of_task, why_in}
 use Rattle.tez_master_view.specs.View.{master_view}
 use Rattle.tez_master_view.specs.Laws.{Goes, why_at, why_after}
 use Rattle.tez_master_view.proofs.TaskReadings.{task_read, no_task_read}

@@ -18,15 +18,15 @@ use Rattle.tez_history.specs.Steps.{is_first_without, is_winner_on_shelf}
 use Rattle.tez_history.specs.Follows.{IsMade}
 use Rattle.tez_laws.proofs.StepLaw.{both, below}
 use Rattle.tez_laws.proofs.Tasks.{winner_task}
-use Rattle.tez_vertex_view.proofs.Taking.{get_below}
+use Rattle.tez_master_model.proofs.Numbers.{get_below}
 use Rattle.tez_vertex_view.proofs.Telling.{winner_there}
 use Rattle.tez_router_view.specs.View.{FitsPlan}
 use Rattle.tez_router_view.specs.Events.{winners_on}
 use Rattle.tez_router_view.proofs.Lists.{filter-same}
 use Rattle.tez_router_view.proofs.Ordering.{in-numbers}
 use Rattle.tez_router_view.proofs.Winners.{won_vertex}
-use Rattle.tez_master_view.specs.Read.{location_in, is_on_shelf, is_on_slot, winner_in, lost_in, flag}
-use Rattle.tez_master_view.specs.Enabled.{is_lost}
+use Rattle.tez_master_model.specs.Read.{location_in, is_on_shelf, is_on_slot, winner_in, lost_in, flag}
+use Rattle.tez_master_model.specs.Enabled.{is_lost}
 use Rattle.tez_master_view.specs.View.{slot_by, location_view, master_view}
 use Rattle.tez_master_view.proofs.TaskReadings.{winner_read, winners_read}
 

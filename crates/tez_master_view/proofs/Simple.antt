@@ -41,10 +41,11 @@ use Rattle.tez_schedule_view.proofs.Staying.{silent_view}
 use Rattle.tez_schedule_view.proofs.Changing.{queued_view}
 use Rattle.tez_schedule_view.proofs.Winning.{done_view as won_view}
 use Rattle.tez_schedule_view.proofs.ByEvent.{preempt_view, fail_view}
-use Rattle.tez_master_view.specs.State.{MasterState}
-use Rattle.tez_master_view.specs.Settled.{settled, after_done, with_location}
+use Rattle.tez_master_model.specs.State.{MasterState}
+use Rattle.tez_master_model.specs.Settled.{settled, after_done, with_location}
 use Rattle.tez_master_view.specs.View.{master_view, locations_view}
-use Rattle.tez_master_view.specs.Laws.{Goes, bytes_of}
+use Rattle.tez_master_view.specs.Laws.{Goes}
+use Rattle.tez_master_model.specs.Bytes.{bytes_of}
 use Rattle.tez_master_view.proofs.Parts.{state, same_parts}
 use Rattle.tez_master_view.proofs.Own.{lost_locations, done_locations, readied_view, published_view, ready_set, published_set}
 

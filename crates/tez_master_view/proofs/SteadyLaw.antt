@@ -49,11 +49,11 @@ use Rattle.tez_schedule.specs.State.{VertexState}
 use Rattle.tez_schedule_view.specs.View.{schedule_view, progress_view}
 use Rattle.tez_schedule_view.proofs.Lists.{get-here}
 use Rattle.tez_schedule_view.proofs.Seeing.{configures_same}
-use Rattle.tez_master_view.specs.Read.{is_queued, processes}
-use Rattle.tez_master_view.specs.Enabled.{enabled_in}
+use Rattle.tez_master_model.specs.Read.{is_queued, processes}
+use Rattle.tez_master_model.specs.Enabled.{enabled_in}
 use Rattle.tez_master_view.specs.View.{master_view}
 use Rattle.tez_master_view.specs.Laws.{Goes}
-use Rattle.tez_master_view.specs.Steady.{IsSteady, CanHaveConfig}
+use Rattle.tez_master_model.specs.Steady.{IsSteady, CanHaveConfig}
 use Rattle.tez_master_view.proofs.Configure.{links_set}
 use Rattle.tez_master_view.proofs.TaskReadings.{queued_read, processes_read}
 use Rattle.tez_master_view.proofs.Takes.{takes}

@@ -20,14 +20,14 @@ use Rattle.tez_pool.specs.Table.{is_free as is_place_free}
 use Rattle.tez_pool_view.specs.View.{held_by, place_view, pool_view}
 use Rattle.tez_pool_view.proofs.Reading.{view_get}
 use Rattle.tez_pool_view.proofs.Choosing.{full_or_free}
-use Rattle.tez_vertex_view.proofs.Taking.{get_above}
+use Rattle.tez_master_model.proofs.Numbers.{get_above}
 use Rattle.tez_router.specs.Table.{fetched_in, missing_in}
 use Rattle.tez_router_view.specs.View.{router_view}
 use Rattle.tez_router_view.proofs.Testing.{fetch_test, send_test}
 use Rattle.tez_schedule_view.proofs.Queueing.{may_queue_same}
 use Rattle.tez_schedule_view.proofs.Answering.{configures_told, are_done_same}
-use Rattle.tez_master_view.specs.Read.{is_free_place, free_place, source_in, is_shallower_queued, first_sink}
-use Rattle.tez_master_view.specs.Enabled.{enabled_in}
+use Rattle.tez_master_model.specs.Read.{is_free_place, free_place, source_in, is_shallower_queued, first_sink}
+use Rattle.tez_master_model.specs.Enabled.{enabled_in}
 use Rattle.tez_master_view.specs.View.{master_view}
 use Rattle.tez_master_view.specs.Laws.{Goes, IsMasters}
 use Rattle.tez_master_view.proofs.TaskReadings.{queued_read, waits_read, processes_read, all_queued_read}

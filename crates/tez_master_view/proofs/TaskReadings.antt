@@ -24,10 +24,10 @@ use Rattle.tez_laws.proofs.Same.{same_attempt-refl}
 use Rattle.tez_laws.proofs.StepLaw.{both, below}
 use Rattle.tez_laws.proofs.Ranges.{configured_is_vertex}
 use Rattle.tez_vertex_view.specs.View.{task_view, vertex_view, tasks_in, machine_at, come}
-use Rattle.tez_vertex_view.proofs.Taking.{get_above}
+use Rattle.tez_master_model.proofs.Numbers.{get_above}
 use Rattle.tez_vertex_view.proofs.Answering.{read_vertex, read_task}
 use Rattle.tez_vertex_view.proofs.Telling.{read_state, read_winners, alive_there, winner_there}
-use Rattle.tez_master_view.specs.Read.{task_in, state_in, winner_in, next_in, is_in_queue, is_at_place, is_at_work, is_queued, waits, processes, queued_of, queued_in, winners_in}
+use Rattle.tez_master_model.specs.Read.{task_in, state_in, winner_in, next_in, is_in_queue, is_at_place, is_at_work, is_queued, waits, processes, queued_of, queued_in, winners_in}
 use Rattle.tez_master_view.specs.View.{master_view}
 
 -- ---- a task

@@ -13,7 +13,7 @@ use Rattle.tez_vertex_view.specs.View.{vertices_view}
 use Rattle.tez_pool_view.specs.View.{pool_view}
 use Rattle.tez_router_view.specs.View.{router_view}
 use Rattle.tez_schedule_view.specs.View.{schedule_view}
-use Rattle.tez_master_view.specs.State.{MasterState}
+use Rattle.tez_master_model.specs.State.{MasterState}
 
 abbrev pub slot_by : Location → Option ℕ
 slot_by (On slot) = Some slot

@@ -6,8 +6,8 @@ ghost use Rattle.tez_conf.specs.declared.values.ConfValues.{ConfValues};
 ghost use Rattle.tez_events.specs.declared.CoreEvent.{CoreEvent};
 ghost use Rattle.tez_history.specs.History.{Past, is_up};
 ghost use Rattle.tez_history.specs.Steps.{enabled, entries_of};
-ghost use Rattle.tez_master_view.specs.Enabled.{enabled_in, why_in};
-ghost use Rattle.tez_master_view.specs.Entries.{entries_in};
+ghost use Rattle.tez_master_model.specs.Enabled.{enabled_in, why_in};
+ghost use Rattle.tez_master_model.specs.Entries.{entries_in};
 ghost use Rattle.tez_master_view.specs.View.{master_view};
 ghost use Rattle.tez_master_view.specs.Laws.{Goes, IsMasters, why_after};
 

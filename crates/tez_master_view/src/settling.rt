@@ -9,9 +9,10 @@ ghost use Rattle.tez_history.specs.History.{Past, extend, stage};
 ghost use Rattle.tez_history.specs.Derived.{is_processing};
 ghost use Rattle.tez_history.specs.Steps.{enabled, entries_of, done_entries};
 ghost use Rattle.tez_laws.specs.Laws.{SpendsNot};
-ghost use Rattle.tez_master_view.specs.Settled.{settled, after_done};
+ghost use Rattle.tez_master_model.specs.Settled.{settled, after_done};
 ghost use Rattle.tez_master_view.specs.View.{master_view};
-ghost use Rattle.tez_master_view.specs.Laws.{Goes, IsMasters, IsMadeFor, bytes_of};
+ghost use Rattle.tez_master_view.specs.Laws.{Goes, IsMasters};
+ghost use Rattle.tez_master_model.specs.Bytes.{IsMadeFor, bytes_of};
 
 /// After an event that may come the master is what the longer history says.
 pub fn events_settle()

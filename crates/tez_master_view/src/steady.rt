@@ -9,10 +9,10 @@ ghost use Rattle.tez_history.specs.History.{Past, is_up};
 ghost use Rattle.tez_history.specs.Derived.{table_over, input_count};
 ghost use Rattle.tez_history.specs.Steps.{winner_behind};
 ghost use Rattle.tez_router.specs.Table.{output_in};
-ghost use Rattle.tez_master_view.specs.Read.{piece_in};
+ghost use Rattle.tez_master_model.specs.Read.{piece_in};
 ghost use Rattle.tez_master_view.specs.View.{master_view};
 ghost use Rattle.tez_master_view.specs.Laws.{Goes};
-ghost use Rattle.tez_master_view.specs.Steady.{IsSteady};
+ghost use Rattle.tez_master_model.specs.Steady.{IsSteady};
 
 /// Who is queued holds no place, who processes is at a task of its vertex, and a vertex that may be
 /// configured can have its tasks.

@@ -43,7 +43,7 @@ use Rattle.tez_pool.specs.Victim.{IsGreatest, candidate, candidates, compare, de
 use Rattle.tez_pool_view.specs.View.{held_by, place_view, pool_view, place_for, IsLeastQueued}
 use Rattle.tez_pool_view.proofs.Holding.{place_with}
 use Rattle.tez_pool_view.proofs.Reading.{alive_vertex, first_free}
-use Rattle.tez_pool_view.proofs.Pairs.{in-flat-out, in-map-out, in-filter-passes, in-filter_map-out, in_filter_map, in_numbers, in_reverse, Pairwise, pairwise-flat, pairwise-numbers, pairwise-filter, pairwise-filter_map, pairwise-refine, find-reverse, last_of, last_some, last_none, IsLast, either_of, find-append, in-numbers-out, find-map, find-same, find-nowhere, any_in, any_none, any_found}
+use Rattle.tez_master_model.proofs.Pairs.{in-flat-out, in-map-out, in-filter-passes, in-filter_map-out, in_filter_map, in_numbers, in_reverse, Pairwise, pairwise-flat, pairwise-numbers, pairwise-filter, pairwise-filter_map, pairwise-refine, find-reverse, last_of, last_some, last_none, IsLast, either_of, find-append, in-numbers-out, find-map, find-same, find-nowhere, any_in, any_none, any_found}
 
 -- ---- no path of a valid plan is as long as the plan
 

@@ -3,7 +3,6 @@ pub mod Committing
 pub mod Holding
 pub mod Leaving
 pub mod Losing
-pub mod Pairs
 pub mod Reading
 pub mod Rows
 pub mod Sinks

@@ -17,7 +17,7 @@ use Rattle.tez_plan.proofs.CheckLemmas.{valid_parts}
 use Rattle.tez_plan.proofs.RankLemmas.{inside_edges}
 use Rattle.tez_plan.proofs.DepthLemmas.{depth_is}
 use Rattle.tez_history.specs.Shape.{vertices, sinks, has_sink}
-use Rattle.tez_pool_view.proofs.Pairs.{any_in, in_numbers}
+use Rattle.tez_master_model.proofs.Pairs.{any_in, in_numbers}
 
 -- ---- the greatest of some numbers
 

@@ -23,8 +23,9 @@ use Rattle.tez_schedule_view.proofs.Beginning.{start_view as schedule_start}
 use Rattle.tez_master_view.specs.View.{master_view}
 use Rattle.tez_master_view.proofs.Parts.{same_parts}
 use Rattle.tez_master_view.proofs.Own.{readied_view, published_view}
-use Rattle.tez_recovery.specs.Recovery.{KeptState, found, found_by}
-use Rattle.tez_recovery.specs.Laws.{knowing_no_sink, has_committed, as_ground, found_in, start_of, no_locations, fresh, open_in, open_of, begun_by, begun}
+use Rattle.tez_master_model.specs.Recovery.{KeptState, found, found_by}
+use Rattle.tez_recovery.specs.Laws.{knowing_no_sink, has_committed, as_ground, found_in, start_of, open_in, open_of, begun_by, begun}
+use Rattle.tez_master_model.specs.Fresh.{no_locations, fresh}
 
 -- ---- a table in which each place is the same
 

@@ -21,7 +21,7 @@ use Rattle.tez_history.specs.Derived.{is_task}
 use Rattle.tez_history.specs.Steps.{each_after}
 use Rattle.tez_history.specs.Runs.{stands_if, kept_if, spent_in, standing_entries}
 use Rattle.tez_progress.specs.Laws.{found_at, found_configs}
-use Rattle.tez_recovery.specs.Recovery.{KeptState, config_in}
+use Rattle.tez_master_model.specs.Recovery.{KeptState, config_in}
 use Rattle.tez_recovery.specs.Laws.{as_ground, stands_entry, carried_entry, kept_entry, found_entries, is_task_in, IsSizedFor, AreOnce, HaveFailed}
 
 -- a fact that such entries leave

@@ -16,13 +16,13 @@ use Rattle.tez_history.specs.Derived.{is_task}
 use Rattle.tez_history.specs.Follows.{IsMade, IsOpen, MayFollow}
 use Rattle.tez_progress.specs.Laws.{found_configs}
 use Rattle.tez_vertex.specs.Vertex.{Vertex}
-use Rattle.tez_vertex_view.specs.View.{configure_one, carry_one, keep_one, AreRestorable}
-use Rattle.tez_vertex_view.proofs.Fresh.{configured_fresh, carried_fresh, kept_fresh}
+use Rattle.tez_master_model.specs.Vertices.{configure_one, carry_one, keep_one, AreRestorable}
+use Rattle.tez_master_model.proofs.Restorable.{configured_fresh, carried_fresh, kept_fresh}
 use Rattle.tez_router_view.specs.View.{FitsPlan}
 use Rattle.tez_router_view.proofs.Keeping.{entry_fits}
 use Rattle.tez_schedule_view.specs.Events.{Tells}
 use Rattle.tez_master_view.specs.View.{master_view, slot_by}
-use Rattle.tez_recovery.specs.Recovery.{KeptState, config_in, slot_kept, all_stood, all_carried, all_kept, AllCanStand, AllCanBeCarried, AllCanBeKept}
+use Rattle.tez_master_model.specs.Recovery.{KeptState, config_in, slot_kept, all_stood, all_carried, all_kept, AllCanStand, AllCanBeCarried, AllCanBeKept}
 use Rattle.tez_recovery.specs.Laws.{stands_entry, carried_entry, kept_entry, IsSizedFor, AreOnce}
 use Rattle.tez_recovery.proofs.Steps.{with_vertices, stood_step, can_stand, carried_step, can_carry, kept_step, can_keep}
 use Rattle.tez_recovery.proofs.Entries.{AreNew, new_after}

@@ -16,13 +16,13 @@ use Rattle.tez_history.specs.Runs.{Run, opened_by, opened_unless, standing_entri
 use Rattle.tez_laws.proofs.Going.{extend-append}
 use Rattle.tez_vertex.specs.Vertex.{Vertex}
 use Rattle.tez_vertex_view.specs.View.{vertices_view, restored_vertices}
-use Rattle.tez_vertex_view.proofs.Fresh.{new_fresh}
+use Rattle.tez_master_model.proofs.Restorable.{new_fresh}
 use Rattle.tez_vertex_view.proofs.Opening.{opened_step}
 use Rattle.tez_router_view.proofs.Keeping.{entry_fits}
-use Rattle.tez_master_view.specs.State.{MasterState}
+use Rattle.tez_master_model.specs.State.{MasterState}
 use Rattle.tez_master_view.specs.View.{master_view, slot_by}
 use Rattle.tez_master_view.specs.Laws.{Goes}
-use Rattle.tez_recovery.specs.Recovery.{KeptState, config_in, all_carried, all_kept, going_on, found_by, AllCanBeCarried, AllCanBeKept, CanGoOn, CanBeFoundAt, CanBeFound}
+use Rattle.tez_master_model.specs.Recovery.{KeptState, config_in, all_carried, all_kept, going_on, found_by, AllCanBeCarried, AllCanBeKept, CanGoOn, CanBeFoundAt, CanBeFound}
 use Rattle.tez_recovery.specs.Laws.{as_ground, found_in, as_found, open_in, start_of, stands_entry, carried_entry, kept_entry, found_entries, entries_in, start_entries, begun_by, begun, new_master, IsGoingOn, IsFoundIn, IsFoundAt}
 use Rattle.tez_recovery.proofs.Beginning.{opens_view, over_view}
 use Rattle.tez_recovery.proofs.Entries.{keeps, AreNew, found_there, task_stands, unspent, all_taken}

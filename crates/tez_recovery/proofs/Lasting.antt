@@ -28,7 +28,7 @@ use Rattle.tez_vertex_view.proofs.Opening.{failed_start}
 use Rattle.tez_router_view.proofs.Keeping.{fits_planned, entry_fits, opened_fits}
 use Rattle.tez_schedule_view.proofs.Bytes.{first_tells, stop_keeps, over_keeps, opened_keeps}
 use Rattle.tez_master_view.specs.Laws.{Goes}
-use Rattle.tez_recovery.specs.Recovery.{KeptState}
+use Rattle.tez_master_model.specs.Recovery.{KeptState}
 use Rattle.tez_recovery.specs.Laws.{as_ground, found_in, start_of, IsSizedFor, IsGoingOn, IsFoundIn, IsFoundAt}
 use Rattle.tez_recovery.proofs.Entries.{stands_all, task_stands, unspent}
 

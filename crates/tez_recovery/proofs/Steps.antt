@@ -31,7 +31,7 @@ use Rattle.tez_progress.proofs.Members.{all_at}
 use Rattle.tez_task.specs.TaskState.{TaskState}
 use Rattle.tez_vertex.specs.Vertex.{Vertex}
 use Rattle.tez_vertex.specs.Table.{task_of, IsFresh}
-use Rattle.tez_vertex_view.specs.View.{configure_one, carry_one, keep_one, AreRestorable}
+use Rattle.tez_master_model.specs.Vertices.{configure_one, carry_one, keep_one, AreRestorable}
 use Rattle.tez_router.specs.State.{LinkState}
 use Rattle.tez_router.specs.Configure.{after_set_edges, CanSetEdges, FitsRouting, FitsParts}
 use Rattle.tez_router_view.specs.View.{router_view, link_view, links_view, routing_for, FitsPlan}
@@ -46,12 +46,12 @@ use Rattle.tez_schedule_view.proofs.Lists.{get-here}
 use Rattle.tez_schedule_view.proofs.Changing.{stands_view}
 use Rattle.tez_schedule_view.proofs.Winning.{kept_view}
 use Rattle.tez_schedule_view.proofs.Staying.{silent_view}
-use Rattle.tez_master_view.specs.State.{MasterState}
+use Rattle.tez_master_model.specs.State.{MasterState}
 use Rattle.tez_master_view.specs.View.{master_view, location_view, slot_by}
 use Rattle.tez_master_view.proofs.Parts.{same_parts}
 use Rattle.tez_master_view.proofs.Own.{published_view, location_set}
 use Rattle.tez_master_view.proofs.Configure.{links_set}
-use Rattle.tez_recovery.specs.Recovery.{KeptState, config_in, slot_kept, stood, carried, kept, CanStand, CanBeCarried, CanBeKept, IsNew}
+use Rattle.tez_master_model.specs.Recovery.{KeptState, config_in, slot_kept, stood, carried, kept, CanStand, CanBeCarried, CanBeKept, IsNew}
 use Rattle.tez_recovery.specs.Laws.{IsSizedFor, stands_entry, carried_entry, kept_entry}
 
 abbrev pub with_vertices : MasterState → List Vertex → MasterState

@@ -1,5 +1,4 @@
 -- How a new master begins, in the words of a history.
---     fresh g c n pool            a master of epoch n: nothing is configured, queued or won
 --     knowing_no_sink m           a master once it knows nothing of the sinks
 --     has_committed past          a commit has started in it, be it under an earlier master
 --     as_found s ks               what it finds, as a run has it
@@ -12,14 +11,13 @@
 --     HaveFailed c s              no task has failed as often as it may
 --     IsGoingOn g c past s ks     what is kept is what the history says of winners of the standing
 --     IsFoundAt g c past s ks     so it is where the job goes on; from a commit that was begun no master goes on
-use Rattle.std.specs.Prelude.{◌≡◌, ◌≢◌, ℕ, suc, max, ◌<◌, ◌≤◌, ⊤, nat_lt, Bool, true, false, List, [], ◌∷◌, ◌++◌, map, length, replicate, Option, None}
+use Rattle.std.specs.Prelude.{◌≡◌, ◌≢◌, ℕ, suc, max, ◌<◌, ◌≤◌, ⊤, nat_lt, Bool, true, false, List, [], ◌∷◌, ◌++◌, map, length, None}
 use Rattle.std.specs.Option.{option_map_or}
 use Rattle.tez_ids.specs.declared.VertexId.{VertexId}
 use Rattle.tez_ids.specs.declared.TaskId.{TaskId}
 use Rattle.tez_ids.specs.declared.AttemptId.{AttemptId}
 use Rattle.tez_lists.specs.Numbers.{In}
 use Rattle.tez_plan.specs.Dag.{Dag, tasks_of as planned}
-use Rattle.tez_plan.specs.declared.parts.VertexSpec.{VertexSpec}
 use Rattle.tez_conf.specs.declared.values.ConfValues.{ConfValues}
 use Rattle.tez_events.specs.declared.Entry.{Entry}
 use Rattle.tez_events.specs.declared.Entry.TheVariants.{Opened, Over, Stands, Carried, Kept}
@@ -32,37 +30,12 @@ use Rattle.tez_history.specs.History.{Past, epoch, location, is_readied, is_publ
 use Rattle.tez_history.specs.Runs.{Found, Unfinished, AllDone, Begun, opened_by}
 use Rattle.tez_history.specs.Runs.{Standing as Ground}
 use Rattle.tez_progress.specs.Laws.{Fits, found_at, found_configs}
-use Rattle.tez_pool.specs.State.{PoolState}
 use Rattle.tez_pool_view.specs.View.{pool_view}
-use Rattle.tez_vertex_view.specs.View.{new_vertices}
-use Rattle.tez_router.specs.Planned.{planned_router}
-use Rattle.tez_schedule.specs.Planned.{planned_schedule}
 use Rattle.tez_schedule_view.specs.Events.{Tells}
-use Rattle.tez_master_view.specs.State.{MasterState}
+use Rattle.tez_master_model.specs.State.{MasterState}
+use Rattle.tez_master_model.specs.Fresh.{fresh}
 use Rattle.tez_master_view.specs.View.{slot_by}
-use Rattle.tez_recovery.specs.Recovery.{KeptState, slot_kept, found}
-
--- ---- a master of which nothing is known yet
-
-abbrev pub no_locations : VertexSpec → List (Option ℕ)
-no_locations s = replicate s.tasks None
-
-abbrev pub fresh : Dag → ConfValues → ℕ → PoolState → MasterState
-fresh g c n pool = record {
-  plan = g;
-  conf = c;
-  epoch = n;
-  vertices = new_vertices g c n;
-  pool = pool;
-  router = planned_router g;
-  schedule = planned_schedule g c;
-  locations = map no_locations g.vertices;
-  readied = replicate (length g.vertices) false;
-  published = replicate (length g.vertices) false;
-  committing = false;
-  finished = false;
-  up = true;
-}
+use Rattle.tez_master_model.specs.Recovery.{KeptState, slot_kept, found}
 
 -- no sink counts as readied or published
 abbrev pub knowing_no_sink : MasterState → MasterState

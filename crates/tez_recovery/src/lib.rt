@@ -1,4 +1,5 @@
-//! What a new master makes of what it finds, and that this is what the history says.
+//! How a new master begins from what it finds, and that what the tables of a master make of it is what
+//! the history says.
 //!
 //! It has no code, but a function for each law, whose contract is the law.
 #![tactic(auto)]
@@ -22,8 +23,9 @@ ghost use Rattle.tez_history.specs.Runs.{Run, spent_in, opened_by};
 ghost use Rattle.tez_pool_view.specs.View.{pool_view};
 ghost use Rattle.tez_master_view.specs.View.{master_view};
 ghost use Rattle.tez_master_view.specs.Laws.{Goes};
-ghost use Rattle.tez_recovery.specs.Recovery.{KeptState, found, CanBeFound};
-ghost use Rattle.tez_recovery.specs.Laws.{fresh, knowing_no_sink, has_committed, as_ground, as_found, open_of, start_of, start_entries, begun, new_master, HaveFailed, IsFoundAt, IsRightFor};
+ghost use Rattle.tez_master_model.specs.Recovery.{KeptState, found, CanBeFound};
+ghost use Rattle.tez_master_model.specs.Fresh.{fresh};
+ghost use Rattle.tez_recovery.specs.Laws.{knowing_no_sink, has_committed, as_ground, as_found, open_of, start_of, start_entries, begun, new_master, HaveFailed, IsFoundAt, IsRightFor};
 
 /// A master begins with its first entry: nothing is configured, queued or won, and the places are as
 /// they were. It is fresh where no sink was published before; where the job is over, it is so but for

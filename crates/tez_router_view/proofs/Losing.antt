@@ -24,7 +24,8 @@ use Rattle.tez_laws.proofs.Going.{extend-append}
 use Rattle.tez_router.specs.State.{RouterState}
 use Rattle.tez_router.specs.Table.{after_withdraw, without, notices_in, winner_in, notices_of as router_notices}
 use Rattle.tez_router_view.specs.View.{router_view, FitsPlan}
-use Rattle.tez_router_view.specs.Events.{after_withdraws, holders_on, winners_on, notice_entry, withdrawal_lines, kill_lines}
+use Rattle.tez_router_view.specs.Events.{after_withdraws, holders_on, winners_on, withdrawal_lines, kill_lines}
+use Rattle.tez_master_model.specs.Entries.{notice_entry}
 use Rattle.tez_router_view.proofs.Lists.{filter_map-same}
 use Rattle.tez_router_view.proofs.Ordering.{AreTasksInOrder, before_not, tasks-order}
 use Rattle.tez_router_view.proofs.Winners.{winner_read, withdrawn_winner}

@@ -25,7 +25,7 @@ use Rattle.tez_laws.proofs.Same.{same_attempt-true, same_attempt-refl}
 use Rattle.tez_router.specs.Table.{is_task, source_task, inputs_in, waits_for, notices_over, notices_in, attempt_notices, winner_in, source_in, fetched_in, has_over}
 use Rattle.tez_router.specs.Table.{notices_of as router_notices, has_fetched as attempt_fetched}
 use Rattle.tez_router_view.specs.View.{router_view, link_view, links_view, inputs_view, admitted_view, routing_view, FitsPlan}
-use Rattle.tez_router_view.specs.Events.{notice_entry}
+use Rattle.tez_master_model.specs.Entries.{notice_entry}
 use Rattle.tez_router_view.proofs.Lists.{map-flat}
 use Rattle.tez_router_view.proofs.Edges.{one_edge, edge_in, edge_target, link_got, inputs_same, source_same}
 use Rattle.tez_router_view.proofs.Ordering.{in-mapped}

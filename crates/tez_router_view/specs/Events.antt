@@ -5,7 +5,6 @@
 --     after_withdraws s ws       these winners were withdrawn, one after another
 --     holders_on c past slot     who holds a place of a node
 --     winners_on g c past slot   the winners whose pieces lie on a node, in the order of tasks
---     notice_entry n             the line of a notice
 --     withdrawal_lines ..        the lines of a withdrawal, from the notices of a router
 --     fetch_event f              the event of a fetch
 --     after_stop s               the router once the master has stopped
@@ -17,16 +16,16 @@ use Rattle.tez_plan.specs.Dag.{Dag, tasks_of as planned}
 use Rattle.tez_conf.specs.declared.values.ConfValues.{ConfValues}
 use Rattle.tez_events.specs.declared.KillCause.TheVariants.{Node}
 use Rattle.tez_events.specs.declared.Entry.{Entry}
-use Rattle.tez_events.specs.declared.Entry.TheVariants.{InputFailed, Killed, Queued, Rerun, Stands}
+use Rattle.tez_events.specs.declared.Entry.TheVariants.{Killed, Queued, Rerun, Stands}
 use Rattle.tez_events.specs.declared.CoreEvent.{CoreEvent}
 use Rattle.tez_events.specs.declared.CoreEvent.TheVariants.{Fetch as FetchInput}
 use Rattle.tez_history.specs.History.{Past, winner, holder}
 use Rattle.tez_history.specs.Derived.{tasks, places_on, is_on_node, next_attempt}
 use Rattle.tez_router.specs.declared.fetches.Fetch.{Fetch}
-use Rattle.tez_router.specs.declared.notice.Notice.{Notice}
 use Rattle.tez_router.specs.State.{RouterState, LinkState}
 use Rattle.tez_router.specs.Configure.{is_at}
 use Rattle.tez_router.specs.Table.{after_announce, after_dismiss, after_withdraw, notices_in}
+use Rattle.tez_master_model.specs.Entries.{notice_entry}
 use Rattle.tez_router_view.specs.View.{links_view}
 
 -- ---- a vertex is configured
@@ -53,9 +52,6 @@ holders_on c past slot = filter_map (λ p. holder p past) (places_on c slot)
 
 abbrev pub winners_on : Dag → ConfValues → Past → ℕ → List AttemptId
 winners_on g c past slot = filter (is_on_node g c past slot) (filter_map (λ t. winner t past) (tasks g past))
-
-abbrev pub notice_entry : Notice → Entry
-notice_entry n = InputFailed n.attempt n.edge n.input n.lost
 
 -- a winner is withdrawn: those that wait for it are told, and its task is queued again
 abbrev pub withdrawal_lines : RouterState → Past → AttemptId → List Entry

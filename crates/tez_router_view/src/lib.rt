@@ -31,7 +31,8 @@ ghost use Rattle.tez_router.specs.Planned.{planned_router};
 ghost use Rattle.tez_router.specs.Table.{after_announce, after_withdraw, after_admit, after_dismiss, after_fetched, source_in, fetched_in, missing_in, notices_in, without, fetches_in, first_complete};
 ghost use Rattle.tez_router_view.specs.View.{router_view, links_view, FitsPlan};
 ghost use Rattle.tez_router.specs.Configure.{after_set_edges, CanSetEdges};
-ghost use Rattle.tez_router_view.specs.Events.{links_at, after_announces, after_dismisses, after_withdraws, holders_on, winners_on, notice_entry, withdrawal_lines, kill_lines, fetch_event, after_stop, FitsEntry};
+ghost use Rattle.tez_router_view.specs.Events.{links_at, after_announces, after_dismisses, after_withdraws, holders_on, winners_on, withdrawal_lines, kill_lines, fetch_event, after_stop, FitsEntry};
+ghost use Rattle.tez_master_model.specs.Entries.{notice_entry};
 
 /// Where a run begins, and where a master opens, the router is that of the plan. After a stop nothing
 /// is won and nobody is admitted, and the edges keep their managers until the next open.

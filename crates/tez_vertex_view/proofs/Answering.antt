@@ -30,7 +30,7 @@ use Rattle.tez_laws.proofs.OneLive.{placed_alive}
 use Rattle.tez_laws.proofs.Tasks.{no_both}
 use Rattle.tez_laws.proofs.StepLaw.{both, event_may}
 use Rattle.tez_vertex_view.specs.View.{machine_at, live_view, task_view, tasks_in, vertex_view, vertices_view}
-use Rattle.tez_vertex_view.proofs.Taking.{get_below}
+use Rattle.tez_master_model.proofs.Numbers.{get_below}
 use Rattle.tez_vertex_view.proofs.Moving.{state, same_state, none_fact, none_by_winner, alive_view, first_view, lives, unspent, placed_took, sent_took, done_took, killed_took, failed_took_last, failed_took_again, lost_took}
 use Rattle.tez_vertex_view.proofs.Stepping.{waits_at, runs_at}
 use Rattle.tez_attempt.specs.declared.AttemptState.TheVariants.{Processing}

@@ -30,7 +30,8 @@ use Rattle.tez_laws.proofs.Tasks.{unscheduled}
 use Rattle.tez_laws.proofs.Ranges.{live_scheduled, scheduled_is_task}
 use Rattle.tez_laws.proofs.Same.{same_task-true}
 use Rattle.tez_laws.proofs.StepLaw.{both, event_may, done_may, AllNotices, notices_are}
-use Rattle.tez_vertex_view.specs.View.{task_view, tasks_in, has_moved, vertex_view, vertices_view, change, FailedAreTasks, live_view}
+use Rattle.tez_vertex_view.specs.View.{task_view, tasks_in, has_moved, vertex_view, vertices_view, FailedAreTasks, live_view}
+use Rattle.tez_master_model.specs.Vertices.{change}
 use Rattle.tez_vertex_view.proofs.Taking.{change_view, same_vertex, stay_vertex}
 use Rattle.tez_vertex_view.proofs.Moving.{same_state, none_fact}
 

@@ -1,6 +1,5 @@
 pub mod Answering
 pub mod Configuring
-pub mod Fresh
 pub mod Losing
 pub mod Moving
 pub mod Opening

@@ -28,7 +28,8 @@ use Rattle.tez_laws.proofs.Tasks.{winner_task}
 use Rattle.tez_laws.proofs.Places.{held, in_place}
 use Rattle.tez_laws.proofs.StepLaw.{both, event_may, made-extend, kill_may, withdrawal_may, through, notices_are, up_open}
 use Rattle.tez_laws.proofs.Going.{extend-append}
-use Rattle.tez_vertex_view.specs.View.{vertices_view, take_in, kill_all, lose_all, held_there, lost_there}
+use Rattle.tez_vertex_view.specs.View.{vertices_view, kill_all, lose_all, held_there, lost_there}
+use Rattle.tez_master_model.specs.Vertices.{take_in}
 use Rattle.tez_vertex_view.specs.Elsewhere.{IsElsewhere}
 use Rattle.tez_vertex_view.proofs.Taking.{takes_one}
 use Rattle.tez_vertex_view.proofs.Moving.{killed_takes, lost_takes, winner_stays}

@@ -27,8 +27,10 @@ use Rattle.tez_history.specs.Runs.{Standing, Run, Found, Unfinished, AllDone, Be
 use Rattle.tez_laws.specs.Laws.{FewFailures}
 use Rattle.tez_laws.proofs.Same.{same_task-true, same_task-refl}
 use Rattle.tez_laws.proofs.Going.{extend-append}
-use Rattle.tez_vertex_view.specs.View.{task_view, live_view, tasks_in, idle_task, idle, has_moved, vertex_view, vertices_view, change, change_by, configure_one, carry_one, failures_in, keep_one, restored_vertices, FailedAreTasks, FailedStand}
-use Rattle.tez_vertex_view.proofs.Taking.{get_below, get_above, set_below, any_same, change_view, same_vertex, stay_vertex, other_index, other_vertex}
+use Rattle.tez_vertex_view.specs.View.{task_view, live_view, tasks_in, idle_task, idle, has_moved, vertex_view, vertices_view, restored_vertices, FailedAreTasks, FailedStand}
+use Rattle.tez_master_model.specs.Vertices.{change, change_by, configure_one, carry_one, failures_in, keep_one}
+use Rattle.tez_master_model.proofs.Numbers.{get_below, get_above}
+use Rattle.tez_vertex_view.proofs.Taking.{set_below, any_same, change_view, same_vertex, stay_vertex, other_index, other_vertex}
 use Rattle.tez_vertex_view.proofs.Moving.{same_state, other_view}
 use Rattle.tez_vertex_view.proofs.Configuring.{configured_by, new_view}
 

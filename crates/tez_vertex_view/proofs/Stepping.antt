@@ -16,7 +16,8 @@ use Rattle.tez_history.specs.Follows.{IsMade}
 use Rattle.tez_laws.specs.Laws.{FewFailures}
 use Rattle.tez_laws.proofs.OneLive.{waits_placed}
 use Rattle.tez_laws.proofs.StepLaw.{both, event_may}
-use Rattle.tez_vertex_view.specs.View.{vertices_view, take_in}
+use Rattle.tez_vertex_view.specs.View.{vertices_view}
+use Rattle.tez_master_model.specs.Vertices.{take_in}
 use Rattle.tez_vertex_view.proofs.Taking.{takes_one}
 use Rattle.tez_vertex_view.proofs.Moving.{placed_takes, sent_takes, done_takes, first_takes, killed_takes, failed_takes_again, failed_takes_last}
 

@@ -1,5 +1,5 @@
 -- One task takes an event, and the others stay as they are.
-use Rattle.std.specs.Prelude.{◌≡◌, ◌⊎◌, ℕ, zero, suc, ◌+◌, ◌<◌, ◌≤◌, nat_lt, Bool, true, false, not, ◌||◌, ◌==◌, if◌then◌else◌, List, map, length, slice_get, slice_set, Some, None, is_some, refl}
+use Rattle.std.specs.Prelude.{◌≡◌, ◌⊎◌, ℕ, zero, suc, ◌+◌, ◌<◌, ◌≤◌, nat_lt, Bool, true, false, not, ◌||◌, ◌==◌, if◌then◌else◌, List, map, length, slice_set, is_some, refl}
 use Rattle.std.specs.List.{list_any}
 use Rattle.std.proofs.Common.{ap, sym, ◌∙◌, arith, inl, inr, zero-add}
 use Rattle.std.proofs.lemmas.Bool.{cases_lt, eqb-true}
@@ -7,7 +7,7 @@ use Rattle.std.proofs.lemmas.Bool.Decides.{nat_tests}
 use Rattle.tez_ids.specs.declared.TaskId.{TaskId}
 use Rattle.tez_ids.specs.Same.{task, same_task}
 use Rattle.tez_lists.specs.Numbers.{numbers_from}
-use Rattle.tez_lists.proofs.Tables.{map_below, get_each, set_each}
+use Rattle.tez_lists.proofs.Tables.{map_below, set_each}
 use Rattle.tez_plan.specs.Dag.{Dag, vertex}
 use Rattle.tez_conf.specs.declared.values.ConfValues.{ConfValues}
 use Rattle.tez_task.specs.declared.TaskEvent.{TaskEvent}
@@ -18,20 +18,11 @@ use Rattle.tez_vertex.specs.Table.{after_take, take_by, is_ignored}
 use Rattle.tez_history.specs.Shape.{numbers_below}
 use Rattle.tez_history.specs.History.{Past, attempts, epoch, config}
 use Rattle.tez_history.specs.Derived.{is_configured}
-use Rattle.tez_vertex_view.specs.View.{task_view, tasks_in, has_moved, vertex_view, vertices_view, change, change_by, take_in}
+use Rattle.tez_master_model.proofs.Numbers.{get_below, get_above}
+use Rattle.tez_vertex_view.specs.View.{task_view, tasks_in, has_moved, vertex_view, vertices_view}
+use Rattle.tez_master_model.specs.Vertices.{change, change_by, take_in}
 
 -- ---- lists by number
-
-get_past : {X : Type 0} (h : ℕ → X) (n k p : ℕ) → k ≤ p → slice_get (map h (numbers_from n k)) p ≡ None
-get_past h n zero p l = refl
-get_past h n (suc k) zero l = absurd (omega arith)
-get_past h n (suc k) (suc p) l = get_past h (suc n) k p (omega arith)
-
-pub get_below : {X : Type 0} (h : ℕ → X) (k p : ℕ) → p < k → slice_get (map h (numbers_below k)) p ≡ Some (h p)
-get_below h k p b = get_each h 0 k p b ∙ ap (λ q. Some (h q)) (zero-add p)
-
-pub get_above : {X : Type 0} (h : ℕ → X) (k p : ℕ) → k ≤ p → slice_get (map h (numbers_below k)) p ≡ None
-get_above h k p l = get_past h 0 k p l
 
 pub set_below : {X : Type 0} (h : ℕ → X) (x : X) (k p : ℕ) → slice_set (map h (numbers_below k)) p x ≡ map (λ q. if p == q then x else h q) (numbers_below k)
 set_below h x k p = set_each h x 0 k p ∙ map_below (λ q. if (0 + p) == q then x else h q) (λ q. if p == q then x else h q) 0 k (λ q _ _. ap (λ m. if m == q then x else h q) (zero-add p))

@@ -4,13 +4,10 @@
 --     vertices_view g c past    the vertices of the plan, by number
 --     idle s                    a vertex once the master has stopped
 --     live_in vs, winners_in vs  the live attempts and the winners in order of tasks
---     change vs v f             the vertices once v changed by f
---     take_in vs t e            the vertices once task t took an event
---     AreRestorable c vs        no task had an attempt, and each may fail more often
 --     FailedAreTasks g past     while the master is up, only tasks of configured vertices have failed
-use Rattle.std.specs.Prelude.{◌≡◌, ⊤, ℕ, Bool, true, false, nat_lt, nat_le, List, map, slice_get, slice_set, Option, Some, None}
+use Rattle.std.specs.Prelude.{◌≡◌, ⊤, ℕ, Bool, true, false, nat_lt, nat_le, List, map, Option, Some, None}
 use Rattle.std.specs.List.{list_any, fold, filter, filter_map, flat_map}
-use Rattle.std.specs.Option.{option_map, option_map_or}
+use Rattle.std.specs.Option.{option_map}
 use Rattle.tez_ids.specs.declared.TaskId.{TaskId}
 use Rattle.tez_ids.specs.declared.AttemptId.{AttemptId}
 use Rattle.tez_ids.specs.Same.{task}
@@ -21,17 +18,16 @@ use Rattle.tez_vman.specs.declared.seen.Config.{Config}
 use Rattle.tez_attempt.specs.declared.AttemptState.{AttemptState}
 use Rattle.tez_attempt.specs.declared.AttemptState.TheVariants.{Queued, Placed, Processing, Killed}
 use Rattle.tez_task.specs.declared.Live.{Live}
-use Rattle.tez_task.specs.declared.TaskEvent.{TaskEvent}
 use Rattle.tez_task.specs.declared.TaskEvent.TheVariants.{Kill, Lose}
 use Rattle.tez_task.specs.TaskState.{TaskState}
 use Rattle.tez_task.specs.Table.{live_of}
 use Rattle.tez_vertex.specs.Vertex.{Vertex}
-use Rattle.tez_vertex.specs.Table.{new_vertex, task_of, after_configure, after_take, after_restore, IsFresh}
 use Rattle.tez_history.specs.Shape.{numbers_below, vertices}
 use Rattle.tez_history.specs.History.{Past, Stage, Unknown, InQueue, Waits, Runs, Ended, stage, live, winner, attempts, failures, epoch, config, holder, is_up, extend}
 use Rattle.tez_history.specs.Derived.{is_configured, is_task, tasks, places_on, is_on_node}
 use Rattle.tez_history.specs.Steps.{each_after}
 use Rattle.tez_history.specs.Runs.{Standing, Found, Unfinished, AllDone, Begun, stands_if, opened_at}
+use Rattle.tez_master_model.specs.Vertices.{new_vertices, take_in, configure_one, carry_one, keep_one}
 
 -- how far an attempt has come, by where it stands; one that is not live has ended
 abbrev pub machine_at : Stage → AttemptState
@@ -86,10 +82,6 @@ vertex_view c v past = record {
 abbrev pub vertices_view : Dag → ConfValues → Past → List Vertex
 vertices_view g c past = map (λ v. vertex_view c v past) (vertices g)
 
--- vertices that are not configured
-abbrev pub new_vertices : Dag → ConfValues → ℕ → List Vertex
-new_vertices g c epoch = map (λ v. new_vertex (vertex v) epoch c.max_failed) (vertices g)
-
 -- after a stop no task has a live attempt or a winner; its counts stay
 abbrev pub idle_task : TaskState → TaskState
 idle_task t = record t { live = None; winner = None }
@@ -103,18 +95,6 @@ live_in vs = flat_map (λ s. filter_map live_of s.tasks) vs
 
 abbrev pub winners_in : List Vertex → List AttemptId
 winners_in vs = flat_map (λ s. filter_map (λ t. t.winner) s.tasks) vs
-
--- ---- one vertex of several changes
-
-abbrev pub change_by : List Vertex → ℕ → (Vertex → Vertex) → Option Vertex → List Vertex
-change_by vs v f None = vs
-change_by vs v f (Some s) = slice_set vs v (f s)
-
-abbrev pub change : List Vertex → ℕ → (Vertex → Vertex) → List Vertex
-change vs v f = change_by vs v f (slice_get vs v)
-
-abbrev pub take_in : List Vertex → TaskId → TaskEvent → List Vertex
-take_in vs t e = change vs t.vertex.0 (λ s. after_take s t.index e)
 
 -- attempts are killed, and winners withdrawn, one after another
 abbrev pub kill_all : List Vertex → List AttemptId → List Vertex
@@ -133,28 +113,8 @@ lost_there g c past slot = filter (is_on_node g c past slot) (filter_map (λ t. 
 
 -- ---- what a new master is given: configurations, then failures, and then winners
 
-abbrev pub configure_one : List Vertex → ℕ × Config → List Vertex
-configure_one vs x = change vs x.0 (λ s. after_configure s x.1.tasks)
-
-abbrev pub carry_one : List Vertex → TaskId × ℕ → List Vertex
-carry_one vs x = change vs x.0.vertex.0 (λ s. after_restore s x.0.index x.1 None)
-
-abbrev pub failures_in : Vertex → ℕ → ℕ
-failures_in s i = option_map_or (λ t. t.failures) (task_of s i) 0
-
-abbrev pub keep_one : List Vertex → AttemptId → List Vertex
-keep_one vs a = change vs a.task.vertex.0 (λ s. after_restore s a.task.index (failures_in s a.task.index) (Some a))
-
 abbrev pub restored_vertices : Dag → ConfValues → ℕ → Standing → List Vertex
 restored_vertices g c epoch s = fold keep_one (fold carry_one (fold configure_one (new_vertices g c epoch) s.configured) s.failed) s.kept
-
--- a task may be restored as long as it had no attempt and may fail more often
-pub record IsRestorable (c : ConfValues) (s : Vertex) : Type 0 where
-  pub limit : s.max_failed ≡ c.max_failed
-  pub tasks : (i : ℕ) (t : TaskState) → task_of s i ≡ Some t → (t.max_failed ≡ c.max_failed) × IsFresh t.failures t
-
-abbrev pub AreRestorable : ConfValues → List Vertex → Type 0
-AreRestorable c vs = (v : ℕ) (s : Vertex) → slice_get vs v ≡ Some s → IsRestorable c s
 
 -- ---- failures
 

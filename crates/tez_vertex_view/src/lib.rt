@@ -27,7 +27,8 @@ ghost use Rattle.tez_history.specs.Derived.{is_task, tasks, live_attempts, is_pr
 ghost use Rattle.tez_history.specs.Steps.{enabled, entries_of, done_entries, winner_behind};
 ghost use Rattle.tez_history.specs.Follows.{IsMade, IsAlive, IsPlaced};
 ghost use Rattle.tez_laws.specs.Laws.{FewFailures};
-ghost use Rattle.tez_vertex_view.specs.View.{task_view, vertex_view, vertices_view, new_vertices, restored_vertices, idle, change, FailedAreTasks, FailedStand, take_in, kill_all, lose_all, held_there, lost_there, come, live_in, winners_in, AreRestorable, configure_one, carry_one, keep_one};
+ghost use Rattle.tez_vertex_view.specs.View.{task_view, vertex_view, vertices_view, restored_vertices, idle, FailedAreTasks, FailedStand, kill_all, lose_all, held_there, lost_there, come, live_in, winners_in};
+ghost use Rattle.tez_master_model.specs.Vertices.{new_vertices, change, take_in, AreRestorable, configure_one, carry_one, keep_one};
 ghost use Rattle.tez_vertex_view.specs.Elsewhere.{IsElsewhere};
 
 /// A task gets its first attempt.

@@ -28,9 +28,9 @@ use Rattle.tez_history.specs.Shape.{has_sink, sinks}
 use Rattle.tez_history.specs.History.{Past, extend}
 use Rattle.tez_history.specs.Derived.{task_count, winners_of}
 use Rattle.tez_history.specs.Steps.{entries_of}
-use Rattle.tez_master_view.specs.State.{MasterState}
-use Rattle.tez_master_view.specs.Settled.{settled}
-use Rattle.tez_master_view.specs.Enabled.{enabled_in}
+use Rattle.tez_master_model.specs.State.{MasterState}
+use Rattle.tez_master_model.specs.Settled.{settled}
+use Rattle.tez_master_model.specs.Enabled.{enabled_in}
 use Rattle.tez_master_view.specs.View.{master_view}
 use Rattle.tez_sinks.specs.Sinks.{sink_of, sink_name, TasksWereStaged}
 use Rattle.tez_log.specs.Log.{LogState}

@@ -15,8 +15,8 @@ use Rattle.tez_meaning.specs.Jobs.{Job}
 use Rattle.tez_history.specs.Shape.{Edge, edges_to}
 use Rattle.tez_history.specs.History.{Past}
 use Rattle.tez_shelves.specs.Shelf.{shelf, kept_if, same_node}
-use Rattle.tez_master_view.specs.Read.{winner_in}
-use Rattle.tez_master_view.specs.Enabled.{enabled_in}
+use Rattle.tez_master_model.specs.Read.{winner_in}
+use Rattle.tez_master_model.specs.Enabled.{enabled_in}
 use Rattle.tez_master_view.specs.View.{master_view}
 use Rattle.tez_inflight.specs.Seats.{Seat, Gathers, SeatsState, number, nothing_over, numbers_differ, order_of, seat_at, after_seat, after_leaves}
 use Rattle.tez_inflight.proofs.EdgeLemmas.{numbers_of_tested}

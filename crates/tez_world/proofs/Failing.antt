@@ -13,8 +13,8 @@ use Rattle.tez_events.specs.declared.CoreEvent.TheVariants.{Fail}
 use Rattle.tez_meaning.specs.Jobs.{Job}
 use Rattle.tez_history.specs.History.{Past, extend, failures}
 use Rattle.tez_history.specs.Steps.{entries_of}
-use Rattle.tez_master_view.specs.Enabled.{enabled_in}
-use Rattle.tez_master_view.specs.Entries.{is_last_in}
+use Rattle.tez_master_model.specs.Enabled.{enabled_in}
+use Rattle.tez_master_model.specs.Entries.{is_last_in}
 use Rattle.tez_master_view.specs.View.{master_view}
 use Rattle.tez_inflight.specs.Seats.{SeatsState}
 use Rattle.tez_log.specs.Log.{LogState}

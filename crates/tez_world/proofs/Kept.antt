@@ -14,7 +14,7 @@ use Rattle.tez_history.specs.History.{Past, extend, stage}
 use Rattle.tez_history.specs.Derived.{is_processing}
 use Rattle.tez_history.specs.Steps.{enabled, entries_of, done_entries}
 use Rattle.tez_log.specs.Log.{LogState}
-use Rattle.tez_master_view.specs.Enabled.{enabled_in}
+use Rattle.tez_master_model.specs.Enabled.{enabled_in}
 use Rattle.tez_master_view.specs.Laws.{IsMasters}
 use Rattle.tez_master_view.specs.View.{master_view}
 use Rattle.tez_orders.specs.declared.report.Outcome.{Outcome}

@@ -16,8 +16,8 @@ use Rattle.tez_history.specs.Shape.{sinks, numbers_below}
 use Rattle.tez_history.specs.History.{Past, extend}
 use Rattle.tez_history.specs.Derived.{task_count, winners_of}
 use Rattle.tez_history.specs.Steps.{entries_of}
-use Rattle.tez_master_view.specs.Enabled.{enabled_in}
-use Rattle.tez_master_view.specs.Read.{winner_in}
+use Rattle.tez_master_model.specs.Enabled.{enabled_in}
+use Rattle.tez_master_model.specs.Read.{winner_in}
 use Rattle.tez_world_invariant.specs.Keeping.{Parts, Holds as HoldsNoted, most_entries, sum_of}
 use Rattle.tez_world.specs.World.{Notes, AreNoted}
 use Rattle.tez_world.specs.Holds.{Holds, with_right_notes}

@@ -23,7 +23,7 @@ use Rattle.tez_history.specs.Shape.{has_sink, vertices, places}
 use Rattle.tez_pool.specs.Table.{free, new_pool}
 use Rattle.tez_pool.specs.Index.{held_at}
 use Rattle.tez_pool.specs.Victim.{AreIn}
-use Rattle.tez_core.specs.Fresh.{fresh}
+use Rattle.tez_master_model.specs.Fresh.{fresh}
 use Rattle.tez_inflight.specs.Seats.{Vacant}
 use Rattle.tez_world_invariant.specs.Keeping.{Holds as HoldsNoted, sum_of}
 use Rattle.tez_world_invariant.specs.Begin.{first_past}

@@ -31,7 +31,7 @@ use Rattle.tez_contents.specs.Contents.{made}
 use Rattle.tez_contents.specs.Laws.{task_makes}
 use Rattle.tez_contents.proofs.Attempts.{all_right}
 use Rattle.tez_contents.proofs.Sent.{runs_ordered}
-use Rattle.tez_master_view.specs.Laws.{bytes_of, leaves_by_key}
+use Rattle.tez_master_model.specs.Bytes.{bytes_of, leaves_by_key}
 use Rattle.tez_orders.specs.Orders.{OrderParts}
 use Rattle.tez_orders.specs.Outcomes.{IsOutcome}
 use Rattle.tez_orders.specs.declared.report.Outcome.TheVariants.{Done}

@@ -29,15 +29,16 @@ use Rattle.tez_history.specs.Steps.{done_entries}
 use Rattle.tez_log.specs.Log.{LogState}
 use Rattle.tez_shelves.specs.Shelf.{shelf}
 use Rattle.tez_shelves.specs.Piece.{size}
-use Rattle.tez_master_view.specs.declared.why.Why.{Why}
-use Rattle.tez_master_view.specs.declared.why.Why.TheVariants.{OldEpoch, Stranger}
-use Rattle.tez_master_view.specs.State.{MasterState}
-use Rattle.tez_master_view.specs.Enabled.{why_in, enabled_in}
-use Rattle.tez_master_view.specs.Read.{processes, is_running}
+use Rattle.tez_master_model.specs.declared.why.Why.{Why}
+use Rattle.tez_master_model.specs.declared.why.Why.TheVariants.{OldEpoch, Stranger}
+use Rattle.tez_master_model.specs.State.{MasterState}
+use Rattle.tez_master_model.specs.Enabled.{why_in, enabled_in}
+use Rattle.tez_master_model.specs.Read.{processes, is_running}
 use Rattle.tez_master_view.specs.View.{master_view}
-use Rattle.tez_master_view.specs.Steady.{IsSteady}
-use Rattle.tez_master_view.specs.Settled.{after_done}
-use Rattle.tez_master_view.specs.Laws.{bytes_of, why_after, why_at}
+use Rattle.tez_master_model.specs.Steady.{IsSteady}
+use Rattle.tez_master_model.specs.Settled.{after_done}
+use Rattle.tez_master_model.specs.Bytes.{bytes_of}
+use Rattle.tez_master_view.specs.Laws.{why_after, why_at}
 use Rattle.tez_contents.specs.Contents.{made, met_bad}
 use Rattle.tez_orders.specs.Orders.{OrderParts}
 use Rattle.tez_orders.specs.Outcomes.{ReportParts, IsOutcome, pieces_of}

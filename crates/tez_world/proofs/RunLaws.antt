@@ -22,8 +22,8 @@ use Rattle.tez_history.specs.Shape.{has_sink, sinks, vertices}
 use Rattle.tez_meaning.specs.Jobs.{Job}
 use Rattle.tez_history.specs.History.{Past}
 use Rattle.tez_history.specs.Steps.{choice}
-use Rattle.tez_master_view.specs.Choice.{choice_in}
-use Rattle.tez_master_view.specs.Laws.{IsVictim}
+use Rattle.tez_master_model.specs.Choice.{choice_in}
+use Rattle.tez_master_model.specs.Victim.{IsVictim}
 use Rattle.tez_sinks.specs.Sinks.{published_view, sink_of, sink_name, HasNoSink}
 use Rattle.tez_world_invariant.specs.Store.{HasPublished, StoreStands, WasClear}
 use Rattle.tez_world_invariant.proofs.EndsBegin.{opened_stands, none_named}

@@ -13,7 +13,7 @@ use Rattle.tez_history.specs.Shape.{Edge, edges_to}
 use Rattle.tez_history.specs.History.{Past}
 use Rattle.tez_pool.specs.Table.{place_held}
 use Rattle.tez_schedule.specs.Table.{config_at}
-use Rattle.tez_master_view.specs.Enabled.{enabled_in}
+use Rattle.tez_master_model.specs.Enabled.{enabled_in}
 use Rattle.tez_master_view.specs.View.{master_view}
 use Rattle.tez_orders.specs.Orders.{OrderParts}
 use Rattle.tez_assembly.specs.Order.{Records, order_for}

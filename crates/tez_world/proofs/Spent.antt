@@ -11,8 +11,8 @@ use Rattle.tez_history.specs.Steps.{is_running}
 use Rattle.tez_task.specs.Table.{is_last}
 use Rattle.tez_laws.proofs.StepLaw.{both, alive_task}
 use Rattle.tez_laws.proofs.OneLive.{running_alive}
-use Rattle.tez_master_view.specs.Enabled.{enabled_in}
-use Rattle.tez_master_view.specs.Entries.{is_last_in}
+use Rattle.tez_master_model.specs.Enabled.{enabled_in}
+use Rattle.tez_master_model.specs.Entries.{is_last_in}
 use Rattle.tez_master_view.proofs.TaskReadings.{task_read}
 use Rattle.tez_world_invariant.specs.Keeping.{Parts, Holds}
 use Rattle.tez_world_invariant.proofs.PartsKeep.{on_of}

@@ -12,9 +12,9 @@ use Rattle.tez_meaning.specs.Jobs.{Job}
 use Rattle.tez_log.specs.Log.{LogState}
 use Rattle.tez_history.specs.History.{Past, extend, is_up}
 use Rattle.tez_history.specs.Steps.{entries_of}
-use Rattle.tez_master_view.specs.State.{MasterState}
-use Rattle.tez_master_view.specs.Read.{is_running, processes}
-use Rattle.tez_master_view.specs.Enabled.{enabled_in}
+use Rattle.tez_master_model.specs.State.{MasterState}
+use Rattle.tez_master_model.specs.Read.{is_running, processes}
+use Rattle.tez_master_model.specs.Enabled.{enabled_in}
 use Rattle.tez_sinks.specs.Sinks.{HasNoSink, IsOfNoSink}
 use Rattle.tez_world_invariant.specs.Keeping.{Parts}
 use Rattle.tez_world_invariant.specs.Step.{IsPlain}

@@ -8,12 +8,12 @@ use Rattle.tez_events.specs.declared.CoreEvent.TheVariants.{Open, Configure, Que
 use Rattle.tez_meaning.specs.Jobs.{Job}
 use Rattle.tez_history.specs.History.{Past, extend}
 use Rattle.tez_history.specs.Steps.{entries_of}
-use Rattle.tez_master_view.specs.declared.why.Why.{Why}
-use Rattle.tez_master_view.specs.State.{MasterState}
-use Rattle.tez_master_view.specs.Steady.{IsSteady}
-use Rattle.tez_master_view.specs.Enabled.{enabled_in, why_not}
-use Rattle.tez_master_view.specs.Entries.{entries_in}
-use Rattle.tez_master_view.specs.Settled.{settled}
+use Rattle.tez_master_model.specs.declared.why.Why.{Why}
+use Rattle.tez_master_model.specs.State.{MasterState}
+use Rattle.tez_master_model.specs.Steady.{IsSteady}
+use Rattle.tez_master_model.specs.Enabled.{enabled_in, why_not}
+use Rattle.tez_master_model.specs.Entries.{entries_in}
+use Rattle.tez_master_model.specs.Settled.{settled}
 use Rattle.tez_master_view.specs.Laws.{IsMasters}
 use Rattle.tez_master_view.specs.View.{master_view}
 use Rattle.tez_log.specs.Log.{LogState}

@@ -16,9 +16,9 @@ use Rattle.tez_laws.proofs.OneLive.{one_live}
 use Rattle.tez_laws.proofs.Tasks.{no_both}
 use Rattle.tez_progress.proofs.Ending.{goes_further}
 use Rattle.tez_contents.proofs.Attempts.{all_right}
-use Rattle.tez_master_view.specs.State.{MasterState}
-use Rattle.tez_master_view.specs.Read.{processes}
-use Rattle.tez_master_view.specs.Enabled.{enabled_in}
+use Rattle.tez_master_model.specs.State.{MasterState}
+use Rattle.tez_master_model.specs.Read.{processes}
+use Rattle.tez_master_model.specs.Enabled.{enabled_in}
 use Rattle.tez_master_view.specs.View.{master_view}
 use Rattle.tez_master_view.proofs.TaskReadings.{processes_read}
 use Rattle.tez_orders.specs.declared.report.Outcome.{Outcome}

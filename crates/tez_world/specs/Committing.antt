@@ -8,8 +8,8 @@ use Rattle.tez_ids.specs.Same.{task}
 use Rattle.tez_record.specs.Bag.{text}
 use Rattle.tez_history.specs.Shape.{numbers_below}
 use Rattle.tez_schedule.specs.Table.{progress_at}
-use Rattle.tez_master_view.specs.State.{MasterState}
-use Rattle.tez_master_view.specs.Read.{winner_in}
+use Rattle.tez_master_model.specs.State.{MasterState}
+use Rattle.tez_master_model.specs.Read.{winner_in}
 
 abbrev pub winners_in : MasterState → ℕ → List AttemptId
 winners_in m v = filter_map (λ i. winner_in m (task v i)) (numbers_below (progress_at m.schedule v).1)

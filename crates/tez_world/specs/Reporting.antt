@@ -13,8 +13,8 @@ use Rattle.tez_history.specs.History.{stage}
 use Rattle.tez_history.specs.Derived.{is_processing}
 use Rattle.tez_log.specs.Log.{LogState}
 use Rattle.tez_pool.specs.Table.{place_held}
-use Rattle.tez_master_view.specs.State.{MasterState}
-use Rattle.tez_master_view.specs.Enabled.{why_in}
+use Rattle.tez_master_model.specs.State.{MasterState}
+use Rattle.tez_master_model.specs.Enabled.{why_in}
 use Rattle.tez_world.specs.declared.running.Running.{Running}
 use Rattle.tez_world.specs.declared.reporting.At.{At}
 use Rattle.tez_world.specs.declared.verdict.Device.TheVariants as device

@@ -14,7 +14,7 @@ use Rattle.tez_meaning.specs.Jobs.{Job}
 use Rattle.tez_meaning.specs.Value.{sums}
 use Rattle.tez_history.specs.History.{extend}
 use Rattle.tez_history.specs.Steps.{entries_of}
-use Rattle.tez_master_view.specs.Enabled.{enabled_in, why_not}
+use Rattle.tez_master_model.specs.Enabled.{enabled_in, why_not}
 use Rattle.tez_master_view.specs.View.{master_view}
 use Rattle.tez_log.specs.Log.{LogState}
 use Rattle.tez_master.specs.Master.{Step, entries_told, records_told}

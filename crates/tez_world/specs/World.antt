@@ -32,11 +32,12 @@ use Rattle.tez_history.specs.History.{Past, extend, stage, failures, is_up, is_c
 use Rattle.tez_history.specs.Derived.{is_processing}
 use Rattle.tez_history.specs.Steps.{entries_of, done_entries, choice}
 use Rattle.tez_contents.specs.Contents.{made, met_bad}
-use Rattle.tez_master_view.specs.declared.why.Why.{Why}
-use Rattle.tez_master_view.specs.declared.why.Why.TheVariants.{Over as IsOver, Down as IsDown, Stranger}
-use Rattle.tez_master_view.specs.Enabled.{enabled_in, why_not}
+use Rattle.tez_master_model.specs.declared.why.Why.{Why}
+use Rattle.tez_master_model.specs.declared.why.Why.TheVariants.{Over as IsOver, Down as IsDown, Stranger}
+use Rattle.tez_master_model.specs.Enabled.{enabled_in, why_not}
 use Rattle.tez_master_view.specs.View.{master_view}
-use Rattle.tez_master_view.specs.Laws.{why_after, leaves_by_key}
+use Rattle.tez_master_view.specs.Laws.{why_after}
+use Rattle.tez_master_model.specs.Bytes.{leaves_by_key}
 use Rattle.tez_rules.specs.OneMaster.{AllFit}
 use Rattle.tez_orders.specs.declared.report.Outcome.{Outcome}
 use Rattle.tez_orders.specs.declared.report.Outcome.TheVariants.{Done, Bad, NoMemory}

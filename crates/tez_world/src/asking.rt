@@ -2,11 +2,11 @@
 ghost use Rattle.std.specs.Prelude.{◌≡◌, ◌≤◌, ◌++◌, ◌<◌, ◌+◌, not, true, length, Some, None, IsSome, IfOk, OnOk};
 ghost use Rattle.tez_history.specs.History.{extend};
 ghost use Rattle.tez_history.specs.Steps.{entries_of};
-ghost use Rattle.tez_master_view.specs.Enabled.{enabled_in, why_not};
+ghost use Rattle.tez_master_model.specs.Enabled.{enabled_in, why_not};
 ghost use Rattle.tez_master_view.specs.View.{master_view};
 ghost use Rattle.tez_entries.specs.Records.{records_of};
 ghost use Rattle.tez_master.specs.Master.{Step, Took, settled_by, is_ignored, IsIgnoredFor, entries_told, records_told, spent_told, spent_in, HasNumbers};
-ghost use Rattle.tez_master_view.specs.Steady.{IsSteady};
+ghost use Rattle.tez_master_model.specs.Steady.{IsSteady};
 ghost use Rattle.tez_world_invariant.specs.Keeping.{most_entries};
 ghost use Rattle.tez_world.specs.Holds.{parts_of, Holds, notes_of};
 ghost use Rattle.tez_world.specs.Steps.{SameParts, SameLog, IsAsked};

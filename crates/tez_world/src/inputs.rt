@@ -22,7 +22,7 @@ use tez_events::CoreEvent;
 use tez_ids::{AttemptId, EdgeId, VertexId};
 use tez_log::Log;
 use tez_master::Handled;
-use tez_master_view::Why;
+use tez_master_model::Why;
 use tez_meaning::Job;
 use tez_orders::Order;
 use tez_record::Records;

@@ -17,7 +17,7 @@ use std::marker::Model;
 use tez_conf::Conf;
 use tez_events::{CoreEvent, Trace};
 use tez_log::Log;
-use tez_master_view::Why;
+use tez_master_model::Why;
 use tez_meaning::Job;
 use tez_orders::Order;
 use tez_ports::OutputStore;

@@ -5,7 +5,7 @@ ghost use Rattle.tez_ids.specs.Same.{same_attempt};
 ghost use Rattle.tez_lists.specs.Numbers.{numbers_from};
 ghost use Rattle.tez_events.specs.declared.CoreEvent.{CoreEvent};
 ghost use Rattle.tez_shelves.specs.Shelf.{shelf, kept_if, same_node};
-ghost use Rattle.tez_master_view.specs.Read.{winner_in};
+ghost use Rattle.tez_master_model.specs.Read.{winner_in};
 ghost use Rattle.tez_inflight.specs.Seats.{after_leaves};
 ghost use Rattle.tez_work_view.specs.Holdings.{node};
 ghost use Rattle.tez_world.specs.Holds.{parts_of, Holds, notes_of};

@@ -6,7 +6,7 @@ ghost use Rattle.tez_ports.specs.Content.{Told, bytes_of};
 ghost use Rattle.tez_events.specs.declared.Entry.TheVariants.{Opened};
 ghost use Rattle.tez_history.specs.Shape.{has_sink};
 ghost use Rattle.tez_pool.specs.Victim.{AreIn};
-ghost use Rattle.tez_core.specs.Fresh.{fresh};
+ghost use Rattle.tez_master_model.specs.Fresh.{fresh};
 ghost use Rattle.tez_world.specs.World.{first_published};
 ghost use Rattle.tez_world.specs.Begun.{HasRows, HasBegun, WasAsked, HasFault, IsNotFault};
 ghost use Rattle.tez_world.specs.Holds.{parts_of, Holds};

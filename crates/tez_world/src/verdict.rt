@@ -1,6 +1,6 @@
 //! How a world ends, and what a step answers.
 use tez_ids::{TaskId, VertexId};
-use tez_master_view::Why;
+use tez_master_model::Why;
 
 /// A device that a world may fail at.
 #[derive(Clone, Copy, Debug, PartialEq, Eq)]

@@ -33,7 +33,7 @@ use Rattle.tez_schedule_view.proofs.Beginning.{start_view as schedule_started}
 use Rattle.tez_master_view.specs.View.{master_view, location_view, locations_view}
 use Rattle.tez_master_view.specs.Laws.{Goes}
 use Rattle.tez_master_view.proofs.Parts.{same_parts, same_rest}
-use Rattle.tez_core.specs.Fresh.{fresh, no_locations}
+use Rattle.tez_master_model.specs.Fresh.{fresh, no_locations}
 use Rattle.tez_vertex_view.specs.View.{vertices_view}
 use Rattle.tez_pool_view.specs.View.{pool_view}
 use Rattle.tez_router_view.specs.View.{router_view}

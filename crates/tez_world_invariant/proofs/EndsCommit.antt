@@ -27,9 +27,9 @@ use Rattle.tez_progress.proofs.Members.{clash, in_numbers, all_at, found_each}
 use Rattle.tez_contents.specs.Laws.{HasNone}
 use Rattle.tez_schedule.specs.Table.{progress_at}
 use Rattle.tez_schedule_view.proofs.Answering.{progress_same}
-use Rattle.tez_master_view.specs.Enabled.{enabled_in}
-use Rattle.tez_master_view.specs.Read.{winner_in}
-use Rattle.tez_master_view.specs.Settled.{settled}
+use Rattle.tez_master_model.specs.Enabled.{enabled_in}
+use Rattle.tez_master_model.specs.Read.{winner_in}
+use Rattle.tez_master_model.specs.Settled.{settled}
 use Rattle.tez_master_view.proofs.EachEvent.{event_settles}
 use Rattle.tez_master_view.proofs.Lasting.{goes_event}
 use Rattle.tez_master_view.proofs.TaskReadings.{winner_read}

@@ -11,8 +11,8 @@ use Rattle.tez_meaning.specs.Jobs.{Job}
 use Rattle.tez_history.specs.History.{Past, stage}
 use Rattle.tez_history.specs.Derived.{is_processing}
 use Rattle.tez_history.specs.Steps.{enabled}
-use Rattle.tez_master_view.specs.Enabled.{enabled_in}
-use Rattle.tez_master_view.specs.Read.{processes}
+use Rattle.tez_master_model.specs.Enabled.{enabled_in}
+use Rattle.tez_master_model.specs.Read.{processes}
 use Rattle.tez_master_view.specs.Laws.{IsMasters}
 use Rattle.tez_master_view.proofs.Takes.{takes}
 use Rattle.tez_master_view.proofs.TaskReadings.{processes_read}

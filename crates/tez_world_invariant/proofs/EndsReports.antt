@@ -35,11 +35,12 @@ use Rattle.tez_pool_view.specs.View.{standing, pool_view}
 use Rattle.tez_pool_view.proofs.Reading.{read_place, read_life, alive_vertex}
 use Rattle.tez_contents.specs.Contents.{made, met_bad}
 use Rattle.tez_contents.specs.Laws.{HasNone}
-use Rattle.tez_master_view.specs.Enabled.{enabled_in, why_in}
-use Rattle.tez_master_view.specs.Entries.{is_last_in}
-use Rattle.tez_master_view.specs.Read.{processes}
-use Rattle.tez_master_view.specs.Settled.{after_done}
-use Rattle.tez_master_view.specs.Laws.{IsMadeFor, leaves_by_key, bytes_of, why_after}
+use Rattle.tez_master_model.specs.Enabled.{enabled_in, why_in}
+use Rattle.tez_master_model.specs.Entries.{is_last_in}
+use Rattle.tez_master_model.specs.Read.{processes}
+use Rattle.tez_master_model.specs.Settled.{after_done}
+use Rattle.tez_master_model.specs.Bytes.{IsMadeFor, leaves_by_key, bytes_of}
+use Rattle.tez_master_view.specs.Laws.{why_after}
 use Rattle.tez_master_view.proofs.Simple.{report_settles}
 use Rattle.tez_master_view.proofs.Lasting.{goes_report}
 use Rattle.tez_master_view.proofs.Reasons.{tells}

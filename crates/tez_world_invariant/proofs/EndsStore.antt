@@ -29,8 +29,8 @@ use Rattle.tez_progress.proofs.Members.{clash}
 use Rattle.tez_pool_view.proofs.Committing.{none_holds}
 use Rattle.tez_contents.specs.Contents.{made}
 use Rattle.tez_contents.specs.Laws.{HasNone}
-use Rattle.tez_master_view.specs.Enabled.{enabled_in}
-use Rattle.tez_master_view.specs.Read.{processes}
+use Rattle.tez_master_model.specs.Enabled.{enabled_in}
+use Rattle.tez_master_model.specs.Read.{processes}
 use Rattle.tez_sinks.specs.Sinks.{sink_of, sink_name, sink_entry, published_view, StoreIsRight, TasksWereStaged, HasNoSink, IsOfNoSink}
 use Rattle.tez_sinks.proofs.Called.{tasks_staged}
 use Rattle.tez_sinks.proofs.Names.{entries_are}

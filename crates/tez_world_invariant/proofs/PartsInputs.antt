@@ -27,8 +27,8 @@ use Rattle.tez_pool.specs.Table.{place_held}
 use Rattle.tez_router_view.proofs.Sources.{edge_of, input-in, behind}
 use Rattle.tez_router_view.proofs.Edges.{edge_in}
 use Rattle.tez_router.specs.Table.{output_in, fetched_in}
-use Rattle.tez_master_view.specs.Read.{is_on_shelf, source_in, piece_in, waits, is_running as is_running_in}
-use Rattle.tez_master_view.specs.Enabled.{enabled_in}
+use Rattle.tez_master_model.specs.Read.{is_on_shelf, source_in, piece_in, waits, is_running as is_running_in}
+use Rattle.tez_master_model.specs.Enabled.{enabled_in}
 use Rattle.tez_master_view.proofs.Fetching.{shelf_read, source_is, won_behind}
 use Rattle.tez_master_view.proofs.Pieces.{output_told}
 use Rattle.tez_inflight.specs.Seats.{SeatsState, seat_at, gathering}

@@ -18,8 +18,8 @@ use Rattle.tez_history.specs.Steps.{enabled, entries_of}
 use Rattle.tez_laws.specs.Laws.{SpendsNot}
 use Rattle.tez_laws.proofs.StepLaw.{both}
 use Rattle.tez_contents.specs.Laws.{HasNone}
-use Rattle.tez_master_view.specs.Enabled.{enabled_in}
-use Rattle.tez_master_view.specs.Settled.{settled}
+use Rattle.tez_master_model.specs.Enabled.{enabled_in}
+use Rattle.tez_master_model.specs.Settled.{settled}
 use Rattle.tez_master_view.specs.Laws.{IsMasters}
 use Rattle.tez_master_view.proofs.Takes.{takes}
 use Rattle.tez_master_view.proofs.EachEvent.{event_settles}

@@ -15,9 +15,9 @@ use Rattle.tez_history.specs.History.{Past, winner, life, is_up}
 use Rattle.tez_laws.proofs.StepLaw.{both, below}
 use Rattle.tez_shelves.specs.Shelf.{shelf, kept_if, same_node}
 use Rattle.tez_pool_view.proofs.Reading.{read_life}
-use Rattle.tez_master_view.specs.State.{MasterState}
-use Rattle.tez_master_view.specs.Read.{winner_in}
-use Rattle.tez_master_view.specs.Enabled.{enabled_in, is_lost}
+use Rattle.tez_master_model.specs.State.{MasterState}
+use Rattle.tez_master_model.specs.Read.{winner_in}
+use Rattle.tez_master_model.specs.Enabled.{enabled_in, is_lost}
 use Rattle.tez_master_view.proofs.TaskReadings.{winner_read}
 use Rattle.tez_inflight.specs.Seats.{SeatsState, after_leave, after_leaves}
 use Rattle.tez_work_view.specs.Holdings.{Pieces, node}

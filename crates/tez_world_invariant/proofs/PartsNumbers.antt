@@ -17,12 +17,12 @@ use Rattle.tez_history.specs.Shape.{places}
 use Rattle.tez_history.specs.History.{Past, Stage, Unknown, InQueue, Waits, Runs, Ended, stage, attempts, life, next_container, given_up, holds_place}
 use Rattle.tez_history.specs.Derived.{is_task}
 use Rattle.tez_history.specs.Follows.{IsMade}
-use Rattle.tez_vertex_view.proofs.Taking.{get_above}
+use Rattle.tez_master_model.proofs.Numbers.{get_above}
 use Rattle.tez_lists.specs.Numbers.{numbers_from}
 use Rattle.tez_pool_view.proofs.Reading.{read_life}
 use Rattle.tez_contents.specs.Laws.{HasNone}
-use Rattle.tez_master_view.specs.Read.{task_in}
-use Rattle.tez_master_view.specs.Steady.{IsSteady}
+use Rattle.tez_master_model.specs.Read.{task_in}
+use Rattle.tez_master_model.specs.Steady.{IsSteady}
 use Rattle.tez_master_view.specs.View.{master_view}
 use Rattle.tez_master_view.proofs.TaskReadings.{task_read, no_task_read}
 use Rattle.tez_master_view.proofs.SteadyLaw.{steady}

@@ -28,7 +28,7 @@ use Rattle.tez_schedule_view.proofs.Answering.{config_same}
 use Rattle.tez_pool.specs.Table.{place_held, sent_at}
 use Rattle.tez_pool_view.specs.View.{pool_view, standing}
 use Rattle.tez_pool_view.proofs.Reading.{read_place}
-use Rattle.tez_master_view.specs.Enabled.{enabled_in}
+use Rattle.tez_master_model.specs.Enabled.{enabled_in}
 use Rattle.tez_orders.specs.Orders.{OrderParts}
 use Rattle.tez_assembly.specs.Order.{Records, order_for}
 use Rattle.tez_inflight.specs.Seats.{Seat, SeatsState, Vacant, Gathers, Out, seat_at, after_leave, order_or, order_out}

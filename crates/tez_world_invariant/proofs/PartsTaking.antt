@@ -13,10 +13,11 @@ use Rattle.tez_task.specs.Table.{is_last}
 use Rattle.tez_laws.specs.Laws.{SpendsNot}
 use Rattle.tez_laws.proofs.StepLaw.{both, alive_task}
 use Rattle.tez_laws.proofs.OneLive.{running_alive}
-use Rattle.tez_master_view.specs.Enabled.{enabled_in}
-use Rattle.tez_master_view.specs.Entries.{entries_in, is_last_in}
-use Rattle.tez_master_view.specs.Choice.{choice_in}
-use Rattle.tez_master_view.specs.Laws.{IsMasters, IsVictim}
+use Rattle.tez_master_model.specs.Enabled.{enabled_in}
+use Rattle.tez_master_model.specs.Entries.{entries_in, is_last_in}
+use Rattle.tez_master_model.specs.Choice.{choice_in}
+use Rattle.tez_master_view.specs.Laws.{IsMasters}
+use Rattle.tez_master_model.specs.Victim.{IsVictim}
 use Rattle.tez_master_view.proofs.Lines.{adds}
 use Rattle.tez_master_view.proofs.Chosen.{choice_same}
 use Rattle.tez_master_view.proofs.TaskReadings.{task_read}

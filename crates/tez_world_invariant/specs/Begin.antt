@@ -8,7 +8,7 @@ use Rattle.tez_meaning.specs.Jobs.{Job}
 use Rattle.tez_history.specs.Shape.{places}
 use Rattle.tez_history.specs.History.{Past}
 use Rattle.tez_pool.specs.Table.{new_pool}
-use Rattle.tez_core.specs.Fresh.{fresh}
+use Rattle.tez_master_model.specs.Fresh.{fresh}
 use Rattle.tez_inflight.specs.Seats.{Vacant}
 use Rattle.tez_world_invariant.specs.Keeping.{Parts}
 

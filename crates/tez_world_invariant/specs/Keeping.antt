@@ -15,7 +15,7 @@ use Rattle.tez_meaning.specs.Value.{value, sink_text, sums}
 use Rattle.tez_history.specs.Shape.{has_sink}
 use Rattle.tez_history.specs.History.{Past, is_up, is_readied, is_committing}
 use Rattle.tez_contents.specs.Laws.{HasNone, is_kept}
-use Rattle.tez_master_view.specs.State.{MasterState}
+use Rattle.tez_master_model.specs.State.{MasterState}
 use Rattle.tez_master_view.specs.View.{master_view}
 use Rattle.tez_master_view.specs.Laws.{Goes}
 use Rattle.tez_inflight.specs.Seats.{Seat}

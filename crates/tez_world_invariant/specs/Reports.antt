@@ -20,7 +20,7 @@ use Rattle.tez_shelves.specs.Shelf.{shelf}
 use Rattle.tez_contents.specs.Contents.{made}
 use Rattle.tez_assembly.specs.Order.{outs_for}
 use Rattle.tez_inflight.specs.Seats.{Out, seat_at}
-use Rattle.tez_master_view.specs.Laws.{leaves_by_key}
+use Rattle.tez_master_model.specs.Bytes.{leaves_by_key}
 use Rattle.tez_work_view.specs.Holdings.{Pieces, node, order_view}
 use Rattle.tez_world_invariant.specs.Keeping.{Parts}
 

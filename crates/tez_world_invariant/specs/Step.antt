@@ -18,9 +18,9 @@ use Rattle.tez_history.specs.History.{Past, extend}
 use Rattle.tez_history.specs.Steps.{entries_of}
 use Rattle.tez_pool.specs.Table.{place_held}
 use Rattle.tez_shelves.specs.Shelf.{piece_of}
-use Rattle.tez_master_view.specs.State.{MasterState}
-use Rattle.tez_master_view.specs.Read.{piece_in}
-use Rattle.tez_master_view.specs.Settled.{settled}
+use Rattle.tez_master_model.specs.State.{MasterState}
+use Rattle.tez_master_model.specs.Read.{piece_in}
+use Rattle.tez_master_model.specs.Settled.{settled}
 use Rattle.tez_inflight.specs.Seats.{Seat, SeatsState, Records, after_leave, after_gather}
 use Rattle.tez_work_view.specs.Holdings.{Pieces}
 use Rattle.tez_world_invariant.specs.Keeping.{Parts}

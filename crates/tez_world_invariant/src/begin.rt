@@ -12,7 +12,7 @@ ghost use Rattle.tez_events.specs.declared.Entry.TheVariants.{Opened};
 ghost use Rattle.tez_history.specs.History.{Past};
 ghost use Rattle.tez_pool.specs.Table.{new_pool};
 ghost use Rattle.tez_master_view.specs.View.{master_view};
-ghost use Rattle.tez_core.specs.Fresh.{fresh};
+ghost use Rattle.tez_master_model.specs.Fresh.{fresh};
 ghost use Rattle.tez_sinks.specs.Sinks.{sink_of, HasNoSink};
 ghost use Rattle.tez_world_invariant.specs.Keeping.{Holds};
 ghost use Rattle.tez_world_invariant.specs.Store.{StoreStands};

@@ -4,8 +4,8 @@ ghost use Rattle.tez_ids.specs.declared.TaskId.{TaskId};
 ghost use Rattle.tez_conf.specs.declared.values.ConfValues.{ConfValues};
 ghost use Rattle.tez_meaning.specs.Jobs.{Job};
 ghost use Rattle.tez_history.specs.History.{Past};
-ghost use Rattle.tez_master_view.specs.Read.{task_in};
-ghost use Rattle.tez_master_view.specs.Steady.{IsSteady};
+ghost use Rattle.tez_master_model.specs.Read.{task_in};
+ghost use Rattle.tez_master_model.specs.Steady.{IsSteady};
 ghost use Rattle.tez_world_invariant.specs.Keeping.{Parts, Holds};
 
 /// A trace is far shorter than the ranges of the numbers of attempts, lives and containers.

@@ -11,7 +11,7 @@ ghost use Rattle.tez_laws.specs.Laws.{SpendsNot};
 ghost use Rattle.tez_pool.specs.Table.{place_held};
 ghost use Rattle.tez_vman.specs.declared.seen.Config.{Config};
 ghost use Rattle.tez_schedule.specs.Table.{config_at};
-ghost use Rattle.tez_master_view.specs.Enabled.{enabled_in};
+ghost use Rattle.tez_master_model.specs.Enabled.{enabled_in};
 ghost use Rattle.tez_assembly.specs.Order.{order_for};
 ghost use Rattle.tez_inflight.specs.Seats.{SeatsState, Vacant, Gathers, Out, seat_at, order_out};
 ghost use Rattle.tez_work_view.specs.Holdings.{gathered};

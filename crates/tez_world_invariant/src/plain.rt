@@ -8,7 +8,7 @@ ghost use Rattle.tez_events.specs.declared.CoreEvent.{CoreEvent};
 ghost use Rattle.tez_meaning.specs.Jobs.{Job};
 ghost use Rattle.tez_history.specs.History.{Past};
 ghost use Rattle.tez_laws.specs.Laws.{SpendsNot};
-ghost use Rattle.tez_master_view.specs.Enabled.{enabled_in};
+ghost use Rattle.tez_master_model.specs.Enabled.{enabled_in};
 ghost use Rattle.tez_inflight.specs.Seats.{Seat};
 ghost use Rattle.tez_work_view.specs.Holdings.{Pieces, seats_view, IsShelved};
 ghost use Rattle.tez_work_view.specs.Events.{KeepsSeats, KeepsShelves};

@@ -7,10 +7,11 @@ ghost use Rattle.tez_meaning.specs.Jobs.{Job};
 ghost use Rattle.tez_history.specs.History.{Past, is_up};
 ghost use Rattle.tez_history.specs.Steps.{enabled, entries_of, choice};
 ghost use Rattle.tez_laws.specs.Laws.{SpendsNot};
-ghost use Rattle.tez_master_view.specs.Enabled.{enabled_in};
-ghost use Rattle.tez_master_view.specs.Entries.{entries_in, is_last_in};
-ghost use Rattle.tez_master_view.specs.Choice.{choice_in};
-ghost use Rattle.tez_master_view.specs.Laws.{IsMasters, IsVictim};
+ghost use Rattle.tez_master_model.specs.Enabled.{enabled_in};
+ghost use Rattle.tez_master_model.specs.Entries.{entries_in, is_last_in};
+ghost use Rattle.tez_master_model.specs.Choice.{choice_in};
+ghost use Rattle.tez_master_view.specs.Laws.{IsMasters};
+ghost use Rattle.tez_master_model.specs.Victim.{IsVictim};
 ghost use Rattle.tez_world_invariant.specs.Keeping.{Parts, Holds};
 ghost use Rattle.tez_world_invariant.specs.Step.{later, is_purge};
 

@@ -1,6 +1,6 @@
 use Rattle.std.proofs.Common.{◌∙◌}
 use Rattle.std.proofs.lemmas.List.{length-set}
-use Rattle.tez_master_view.specs.Settled.{on_no_slot}
+use Rattle.tez_master_model.specs.Settled.{on_no_slot}
 use Rattle.tez_core.proofs.Firsts.{mapped_more}
 use Rattle.tez_core.proofs.locations.drop_each.Goals as goal
 

@@ -1,5 +1,5 @@
 use Rattle.std.proofs.Common.{◌≡◌, ◌++◌, take, drop, map, length}
-use Rattle.tez_master_view.specs.Settled.{on_no_slot}
+use Rattle.tez_master_model.specs.Settled.{on_no_slot}
 use Rattle.tez_core.proofs.locations.drop_slot.Given as goal
 
 abbrev pub invariant-loop-v : goal.invariant-loop-v

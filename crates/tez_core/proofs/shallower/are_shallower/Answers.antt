@@ -1,6 +1,6 @@
 use Rattle.std.proofs.Common.{◌≡◌, ◌≤◌, ◌+◌, ◌∙◌, suc, ap, sym, arith, length, take, Some}
 use Rattle.std.specs.List.{list_any}
-use Rattle.tez_master_view.specs.Read.{queued_of}
+use Rattle.tez_master_model.specs.Read.{queued_of}
 use Rattle.tez_core.specs.Parts.{is_shallower, has_shallower}
 use Rattle.tez_core.proofs.Firsts.{any_flat, test_at, test_more, all_taken}
 use Rattle.tez_core.proofs.shallower.are_shallower.Goals as goal

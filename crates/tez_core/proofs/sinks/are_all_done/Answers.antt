@@ -2,7 +2,7 @@ use Rattle.std.proofs.Common.{◌≡◌, ◌∙◌, ap, sym, is_none, is_some, n
 use Rattle.std.specs.Option.{option_map}
 use Rattle.tez_ids.specs.declared.VertexId.{VertexId}
 use Rattle.tez_history.specs.Shape.{sinks}
-use Rattle.tez_master_view.specs.Read.{flag}
+use Rattle.tez_master_model.specs.Read.{flag}
 use Rattle.tez_core.proofs.Firsts.{all_by}
 use Rattle.tez_core.proofs.sinks.are_all_done.Goals as goal
 

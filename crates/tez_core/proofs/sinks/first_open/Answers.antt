@@ -2,7 +2,7 @@ use Rattle.std.proofs.Common.{◌≡◌, ◌<◌, ◌∙◌, ◌&&◌, not, ap, 
 use Rattle.std.specs.List.{find}
 use Rattle.tez_lists.specs.Numbers.{numbers_from}
 use Rattle.tez_history.specs.Shape.{has_sink, vertices}
-use Rattle.tez_master_view.specs.Read.{flag}
+use Rattle.tez_master_model.specs.Read.{flag}
 use Rattle.tez_core.proofs.Firsts.{found_first, none_more, find_among}
 use Rattle.tez_core.proofs.sinks.first_open.Goals as goal
 

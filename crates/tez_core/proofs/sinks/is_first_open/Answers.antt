@@ -2,7 +2,7 @@ use Rattle.std.proofs.Common.{◌∙◌, ◌==◌, ap, sym, false, Option}
 use Rattle.std.specs.Option.{option_map, option_map_or}
 use Rattle.tez_ids.specs.declared.VertexId.{VertexId}
 use Rattle.tez_history.specs.Shape.{sinks}
-use Rattle.tez_master_view.specs.Read.{flag}
+use Rattle.tez_master_model.specs.Read.{flag}
 use Rattle.tez_core.proofs.Firsts.{first_by}
 use Rattle.tez_core.proofs.sinks.is_first_open.Goals as goal
 

@@ -1,7 +1,7 @@
 use Rattle.std.proofs.Common.{◌≡◌, ◌++◌, take}
 use Rattle.std.specs.List.{flat_map}
 use Rattle.tez_router.specs.Table.{without}
-use Rattle.tez_master_view.specs.Entries.{withdrawal_in}
+use Rattle.tez_master_model.specs.Entries.{withdrawal_in}
 use Rattle.tez_entries.proofs.loss.add_withdrawals.Given as goal
 
 abbrev pub invariant-loop-w : goal.invariant-loop-w

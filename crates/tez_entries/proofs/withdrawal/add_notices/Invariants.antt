@@ -1,5 +1,5 @@
 use Rattle.std.proofs.Common.{◌≡◌, ◌++◌, take, map}
-use Rattle.tez_router_view.specs.Events.{notice_entry}
+use Rattle.tez_master_model.specs.Entries.{notice_entry}
 use Rattle.tez_entries.proofs.withdrawal.add_notices.Given as goal
 
 abbrev pub invariant-loop-notice : goal.invariant-loop-notice

@@ -1,6 +1,6 @@
 use Rattle.std.specs.Prelude.{Some, None, if◌then◌else◌, length, ◌≤◌, ◌<◌, ◌+◌}
 use Rattle.std.proofs.Common.{rules, ap, sym, ◌∙◌, subst}
-use Rattle.tez_master_view.specs.Steady.{IsSteady}
+use Rattle.tez_master_model.specs.Steady.{IsSteady}
 use Rattle.tez_entries.specs.Records.{records_of}
 use Rattle.tez_master.specs.Master.{Took, HasNumbers}
 use Rattle.tez_world_invariant.specs.Keeping.{most_entries}

@@ -1,7 +1,7 @@
 use Rattle.std.specs.Prelude.{◌≡◌, ℕ, Some}
 use Rattle.std.proofs.Common.{ap, sym, ◌∙◌}
 use Rattle.tez_ids.specs.Same.{task}
-use Rattle.tez_master_view.specs.Read.{winner_in}
+use Rattle.tez_master_model.specs.Read.{winner_in}
 use Rattle.tez_world.proofs.Commits.{one_found, none_found}
 use Rattle.tez_world.proofs.Openings.{gone}
 use Rattle.tez_world.proofs.committing.winners_of.Goals.{in-Some+in_ok-push, in_default}

@@ -2,7 +2,7 @@ use Rattle.std.specs.Prelude.{◌≡◌}
 use Rattle.std.specs.List.{filter_map}
 use Rattle.tez_ids.specs.Same.{task}
 use Rattle.tez_lists.specs.Numbers.{numbers_from}
-use Rattle.tez_master_view.specs.Read.{winner_in}
+use Rattle.tez_master_model.specs.Read.{winner_in}
 use Rattle.tez_world.proofs.committing.winners_of.Given as goal
 
 abbrev pub invariant-loop-index : goal.invariant-loop-index

@@ -2,7 +2,7 @@ use Rattle.std.specs.Prelude.{length, is_some, ◌≤◌}
 use Rattle.std.proofs.Common.{ap, sym, ◌∙◌, subst}
 use Rattle.tez_events.specs.declared.CoreEvent.TheVariants.{LoseNode}
 use Rattle.tez_master_view.specs.View.{master_view}
-use Rattle.tez_master_view.specs.Steady.{IsSteady}
+use Rattle.tez_master_model.specs.Steady.{IsSteady}
 use Rattle.tez_master.specs.Master.{MasterParts, HasNumbers}
 use Rattle.tez_world.proofs.Taking.{is_on, went, changed, short_later, notes_settled}
 use Rattle.tez_world.proofs.Events.{node_kept}

@@ -8,7 +8,7 @@ use Rattle.tez_conf.specs.Ranges.{IsInRange}
 use Rattle.tez_pool.specs.Table.{new_pool}
 use Rattle.tez_pool.specs.State.{PoolState}
 use Rattle.tez_pool.specs.Victim.{AreIn}
-use Rattle.tez_core.specs.Fresh.{fresh}
+use Rattle.tez_master_model.specs.Fresh.{fresh}
 use Rattle.tez_inflight.specs.Seats.{Vacant, SeatsState}
 use Rattle.tez_world.proofs.Openings.{new_within, begun_parts}
 use Rattle.tez_world.proofs.opening.new_running.Goals as goal

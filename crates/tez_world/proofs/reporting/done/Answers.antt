@@ -8,13 +8,13 @@ use Rattle.tez_history.specs.Steps.{done_entries}
 use Rattle.tez_shelves.specs.Piece.{bytes_on}
 use Rattle.tez_shelves.specs.Shelf.{shelf}
 use Rattle.tez_inflight.specs.Seats.{SeatsState}
-use Rattle.tez_master_view.specs.State.{MasterState}
-use Rattle.tez_master_view.specs.Settled.{after_done}
-use Rattle.tez_master_view.specs.Laws.{bytes_of}
+use Rattle.tez_master_model.specs.State.{MasterState}
+use Rattle.tez_master_model.specs.Settled.{after_done}
+use Rattle.tez_master_model.specs.Bytes.{bytes_of}
 use Rattle.tez_world_invariant.specs.Keeping.{most_entries}
 use Rattle.tez_world_invariant.specs.Reports.{made_for}
 use Rattle.tez_master.specs.Master.{Reported, MasterParts, HasNumbers, entries_told}
-use Rattle.tez_master_view.specs.Steady.{IsSteady}
+use Rattle.tez_master_model.specs.Steady.{IsSteady}
 use Rattle.tez_world.specs.World.{Notes, Stands}
 use Rattle.tez_world.specs.Holds.{notes_of}
 use Rattle.tez_world.specs.Reporting.{staged_for}

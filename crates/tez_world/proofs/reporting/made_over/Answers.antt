@@ -4,7 +4,7 @@ use Rattle.tez_plan.specs.Dag.{from, edge, is_scatter_gather}
 use Rattle.tez_shelves.specs.Piece.{bytes_on}
 use Rattle.tez_meaning.proofs.Loops.{told_at}
 use Rattle.tez_history.specs.Shape.{Edge}
-use Rattle.tez_master_view.specs.Laws.{leaves_by_key}
+use Rattle.tez_master_model.specs.Bytes.{leaves_by_key}
 use Rattle.tez_assembly.proofs.LoopLemmas.{out_pushed, out_passed}
 use Rattle.tez_world.proofs.reporting.made_over.Goals.{then-leaves_by_key+in_ok-push, else-leaves_by_key}
 use Rattle.tez_world.proofs.reporting.made_over.Goals as goal

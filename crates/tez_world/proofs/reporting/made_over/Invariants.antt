@@ -2,7 +2,7 @@ use Rattle.std.specs.Prelude.{◌≡◌, map, take, unwrap_or}
 use Rattle.std.specs.List.{filter, enumerate_from}
 use Rattle.tez_plan.specs.Dag.{edge}
 use Rattle.tez_shelves.specs.Piece.{bytes_on}
-use Rattle.tez_master_view.specs.Laws.{leaves_by_key}
+use Rattle.tez_master_model.specs.Bytes.{leaves_by_key}
 use Rattle.tez_world.proofs.reporting.made_over.Given as goal
 
 abbrev pub invariant-loop-e : goal.invariant-loop-e

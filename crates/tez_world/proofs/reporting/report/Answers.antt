@@ -1,6 +1,6 @@
 use Rattle.std.specs.Prelude.{◌≡◌, true}
 use Rattle.tez_events.specs.declared.CoreEvent.TheVariants.{Fail}
-use Rattle.tez_master_view.specs.Enabled.{enabled_in}
+use Rattle.tez_master_model.specs.Enabled.{enabled_in}
 use Rattle.tez_master_view.specs.View.{master_view}
 use Rattle.std.proofs.Common.{sym, ◌∙◌, subst}
 use Rattle.tez_ids.specs.declared.AttemptId.{AttemptId}

@@ -2,8 +2,8 @@ use Rattle.std.proofs.Common.{◌∙◌, ap, sym}
 use Rattle.std.specs.List.{list_any, flat_map}
 use Rattle.tez_plan.specs.Order.{depth}
 use Rattle.tez_vertex.specs.Vertex.{Vertex}
-use Rattle.tez_master_view.specs.State.{MasterState}
-use Rattle.tez_master_view.specs.Read.{queued_of}
+use Rattle.tez_master_model.specs.State.{MasterState}
+use Rattle.tez_master_model.specs.Read.{queued_of}
 use Rattle.tez_core.specs.Parts.{is_shallower, are_shallower}
 use Rattle.tez_core.proofs.Firsts.{any_flat}
 use Rattle.tez_core.proofs.parts.Core.is_shallower_queued.Goals as goal

@@ -1,7 +1,7 @@
 use Rattle.std.proofs.Common.{◌≡◌, ◌∙◌, ap}
 use Rattle.std.specs.Prelude.{true}
 use Rattle.tez_ids.specs.declared.AttemptId.{AttemptId}
-use Rattle.tez_master_view.specs.State.{MasterState}
+use Rattle.tez_master_model.specs.State.{MasterState}
 use Rattle.tez_schedule.specs.State.{ScheduleState}
 use Rattle.tez_schedule.specs.Table.{is_task}
 use Rattle.tez_core.proofs.Taken.{still_task}

@@ -1,8 +1,8 @@
 use Rattle.std.proofs.Common.{◌≡◌, ◌∙◌, List, IfOk, ap, sym, subst}
 use Rattle.std.specs.List.{flat_map}
 use Rattle.tez_ids.specs.declared.AttemptId.{AttemptId}
-use Rattle.tez_master_view.specs.State.{MasterState}
-use Rattle.tez_master_view.specs.Read.{lost_in}
+use Rattle.tez_master_model.specs.State.{MasterState}
+use Rattle.tez_master_model.specs.Read.{lost_in}
 use Rattle.tez_core.specs.Lost.{is_lost_with, lost_at}
 use Rattle.tez_core.proofs.LostLemmas.{of_vertices}
 use Rattle.tez_core.proofs.parts.Core.lost_on.Goals as goal

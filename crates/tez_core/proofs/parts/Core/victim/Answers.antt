@@ -1,6 +1,6 @@
 use Rattle.std.proofs.Common.{sym, subst}
 use Rattle.tez_pool.specs.Victim.{AreIn}
-use Rattle.tez_master_view.specs.State.{MasterState}
+use Rattle.tez_master_model.specs.State.{MasterState}
 use Rattle.tez_core.proofs.parts.Core.victim.Goals as goal
 
 pub victim-requires : goal.victim-requires

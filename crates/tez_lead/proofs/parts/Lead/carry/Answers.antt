@@ -1,5 +1,5 @@
 use Rattle.std.proofs.Common.{◌<◌, ◌≤◌, ◌∙◌, ap, arith}
-use Rattle.tez_master_view.specs.State.{MasterState}
+use Rattle.tez_master_model.specs.State.{MasterState}
 use Rattle.tez_core.specs.Choosing.{count_at}
 use Rattle.tez_lead.proofs.Taken.{absent_carried, few_carried}
 use Rattle.tez_lead.proofs.parts.Lead.carry.Goals as goal

@@ -1,8 +1,8 @@
 use Rattle.std.proofs.Common.{◌∙◌, ap, sym, subst, slice_index_or, take}
 use Rattle.std.proofs.lemmas.List.Sums.{fold_more}
-use Rattle.tez_master_view.specs.State.{MasterState}
-use Rattle.tez_vertex_view.specs.View.{AreRestorable}
-use Rattle.tez_recovery.specs.Recovery.{carried}
+use Rattle.tez_master_model.specs.State.{MasterState}
+use Rattle.tez_master_model.specs.Vertices.{AreRestorable}
+use Rattle.tez_master_model.specs.Recovery.{carried}
 use Rattle.tez_lead.proofs.Taken.{next_carried, carried_limits, carried_places}
 use Rattle.tez_lead.proofs.parts.Lead.carry_all.Goals as goal
 

@@ -1,6 +1,6 @@
 use Rattle.std.proofs.Common.{◌≡◌, take}
-use Rattle.tez_vertex_view.specs.View.{AreRestorable}
-use Rattle.tez_recovery.specs.Recovery.{all_carried}
+use Rattle.tez_master_model.specs.Vertices.{AreRestorable}
+use Rattle.tez_master_model.specs.Recovery.{all_carried}
 use Rattle.tez_lead.proofs.parts.Lead.carry_all.Given as goal
 
 abbrev pub invariant-loop-x : goal.invariant-loop-x

@@ -1,6 +1,6 @@
 use Rattle.std.proofs.Common.{sym, subst}
-use Rattle.tez_master_view.specs.State.{MasterState}
-use Rattle.tez_recovery.specs.Recovery.{CanBeCarried}
+use Rattle.tez_master_model.specs.State.{MasterState}
+use Rattle.tez_master_model.specs.Recovery.{CanBeCarried}
 use Rattle.tez_lead.proofs.Steps.{kept_after}
 use Rattle.tez_lead.proofs.Taken.{carried_steps}
 use Rattle.tez_lead.proofs.parts.Lead.carry_there.Goals as goal

@@ -1,5 +1,5 @@
 use Rattle.std.proofs.Common.{◌∙◌, ap, sym, subst}
-use Rattle.tez_master_view.specs.State.{MasterState}
+use Rattle.tez_master_model.specs.State.{MasterState}
 use Rattle.tez_lead.specs.Kept.{AreVertices}
 use Rattle.tez_lead.proofs.NodeLoss.{emptied_early}
 use Rattle.tez_lead.proofs.parts.Lead.empty_node.Goals as goal

@@ -1,5 +1,5 @@
 use Rattle.std.proofs.Common.{◌∙◌, ap, sym}
-use Rattle.tez_master_view.specs.Settled.{after_fetch}
+use Rattle.tez_master_model.specs.Settled.{after_fetch}
 use Rattle.tez_lead.proofs.Steps.{kept_after, fetch_steps}
 use Rattle.tez_lead.proofs.parts.Lead.fetch.Goals as goal
 

@@ -1,5 +1,5 @@
 use Rattle.std.proofs.Common.{◌∙◌, ap, sym, option_and_then}
-use Rattle.tez_master_view.specs.Choice.{first_queued}
+use Rattle.tez_master_model.specs.Choice.{first_queued}
 use Rattle.tez_core.specs.Choosing.{queued_at}
 use Rattle.tez_lead.proofs.First.{first_read}
 use Rattle.tez_lead.proofs.parts.Lead.first_queued.Goals as goal

@@ -3,8 +3,8 @@ use Rattle.std.specs.Option.{option_map_or}
 use Rattle.tez_ids.specs.declared.AttemptId.{AttemptId}
 use Rattle.tez_plan.specs.Faults.{IsValid}
 use Rattle.tez_plan.specs.Order.{depth}
-use Rattle.tez_master_view.specs.State.{MasterState}
-use Rattle.tez_master_view.specs.Read.{depth_in}
+use Rattle.tez_master_model.specs.State.{MasterState}
+use Rattle.tez_master_model.specs.Read.{depth_in}
 use Rattle.tez_lead.specs.Kept.{AreVertices}
 use Rattle.tez_lead.proofs.First.{shallower_read}
 use Rattle.tez_lead.proofs.parts.Lead.is_shallower_queued.Goals as goal

@@ -1,7 +1,7 @@
 use Rattle.std.proofs.Common.{sym, subst}
 use Rattle.tez_ids.specs.declared.AttemptId.{AttemptId}
-use Rattle.tez_master_view.specs.State.{MasterState}
-use Rattle.tez_recovery.specs.Recovery.{kept, CanBeKept}
+use Rattle.tez_master_model.specs.State.{MasterState}
+use Rattle.tez_master_model.specs.Recovery.{kept, CanBeKept}
 use Rattle.tez_lead.proofs.Steps.{Steps, kept_after}
 use Rattle.tez_lead.proofs.Taken.{kept_steps}
 use Rattle.tez_lead.proofs.parts.Lead.keep.Goals as goal

@@ -1,6 +1,6 @@
 use Rattle.std.proofs.Common.{◌≡◌, ◌∙◌, ap, sym, subst, take}
-use Rattle.tez_master_view.specs.State.{MasterState}
-use Rattle.tez_recovery.specs.Recovery.{CanBeKept}
+use Rattle.tez_master_model.specs.State.{MasterState}
+use Rattle.tez_master_model.specs.Recovery.{CanBeKept}
 use Rattle.tez_lead.proofs.Taken.{next_kept, kept_places}
 use Rattle.tez_lead.proofs.parts.Lead.keep_all.Goals as goal
 

@@ -1,5 +1,5 @@
 use Rattle.std.proofs.Common.{◌≡◌, take}
-use Rattle.tez_recovery.specs.Recovery.{all_kept}
+use Rattle.tez_master_model.specs.Recovery.{all_kept}
 use Rattle.tez_lead.proofs.parts.Lead.keep_all.Given as goal
 
 abbrev pub invariant-loop-k : goal.invariant-loop-k

@@ -1,6 +1,6 @@
 use Rattle.std.proofs.Common.{◌≡◌, ◌+◌, ◌*◌, ◌^◌, ◌∙◌, ap, sym, subst, suc, arith, fold}
 use Rattle.tez_lists.specs.Numbers.{numbers_from}
-use Rattle.tez_master_view.specs.State.{MasterState}
+use Rattle.tez_master_model.specs.State.{MasterState}
 use Rattle.tez_lead.specs.Losing.{killed_at}
 use Rattle.tez_lead.proofs.NodeLoss.{fold_suc, places_below, kills_on}
 use Rattle.tez_lead.proofs.parts.Lead.kill_on.Goals as goal

@@ -1,7 +1,7 @@
 use Rattle.std.proofs.Common.{◌≡◌, ◌+◌, ◌<◌, ◌^◌, ◌∙◌, ap, sym, subst, length, slice_get, IfSome}
 use Rattle.tez_pool.specs.State.{PoolState}
-use Rattle.tez_master_view.specs.State.{MasterState}
-use Rattle.tez_master_view.specs.Settled.{without_node}
+use Rattle.tez_master_model.specs.State.{MasterState}
+use Rattle.tez_master_model.specs.Settled.{without_node}
 use Rattle.tez_lead.proofs.NodeLoss.{emptied_pool, loss_is}
 use Rattle.tez_lead.proofs.parts.Lead.lose_node.Goals as goal
 

@@ -1,7 +1,7 @@
 use Rattle.std.proofs.Common.{sym, subst}
-use Rattle.tez_master_view.specs.State.{MasterState}
-use Rattle.tez_vertex_view.specs.View.{AreRestorable}
-use Rattle.tez_vertex_view.proofs.Fresh.{new_fresh}
+use Rattle.tez_master_model.specs.State.{MasterState}
+use Rattle.tez_master_model.specs.Vertices.{AreRestorable}
+use Rattle.tez_master_model.proofs.Restorable.{new_fresh}
 use Rattle.tez_lead.proofs.Beginning.{new_kept}
 use Rattle.tez_lead.proofs.parts.Lead.new.Goals as goal
 

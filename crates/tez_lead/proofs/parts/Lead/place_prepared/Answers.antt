@@ -1,6 +1,6 @@
 use Rattle.std.proofs.Common.{◌≡◌, true, sym, subst}
-use Rattle.tez_master_view.specs.State.{MasterState}
-use Rattle.tez_master_view.specs.Read.{is_queued}
+use Rattle.tez_master_model.specs.State.{MasterState}
+use Rattle.tez_master_model.specs.Read.{is_queued}
 use Rattle.tez_lead.proofs.Steps.{kept_after, place_steps, queued_there}
 use Rattle.tez_lead.proofs.parts.Lead.place_prepared.Goals as goal
 

@@ -1,7 +1,7 @@
 use Rattle.std.proofs.Common.{◌∙◌, ap, sym, subst}
-use Rattle.tez_master_view.specs.State.{MasterState}
+use Rattle.tez_master_model.specs.State.{MasterState}
 use Rattle.tez_schedule.specs.Table.{can_configure}
-use Rattle.tez_recovery.specs.Recovery.{config_in}
+use Rattle.tez_master_model.specs.Recovery.{config_in}
 use Rattle.tez_lead.specs.Kept.{IsKept}
 use Rattle.tez_lead.proofs.Configuring.{config_kept}
 use Rattle.tez_lead.proofs.parts.Lead.stand.Goals as goal

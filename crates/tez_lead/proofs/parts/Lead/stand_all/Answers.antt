@@ -1,6 +1,6 @@
 use Rattle.std.proofs.Common.{◌<◌, ◌∙◌, ap, sym, subst, arith, take}
-use Rattle.tez_master_view.specs.State.{MasterState}
-use Rattle.tez_vertex_view.specs.View.{AreRestorable}
+use Rattle.tez_master_model.specs.State.{MasterState}
+use Rattle.tez_master_model.specs.Vertices.{AreRestorable}
 use Rattle.tez_lead.proofs.Taken.{next_stands, stood_places, stood_limits}
 use Rattle.tez_lead.proofs.parts.Lead.stand_all.Goals as goal
 

@@ -1,5 +1,5 @@
 use Rattle.std.proofs.Common.{◌≡◌, take}
-use Rattle.tez_recovery.specs.Recovery.{all_stood}
+use Rattle.tez_master_model.specs.Recovery.{all_stood}
 use Rattle.tez_lead.proofs.parts.Lead.stand_all.Given as goal
 
 abbrev pub invariant-loop-x : goal.invariant-loop-x

@@ -2,7 +2,7 @@ use Rattle.std.proofs.Common.{◌≡◌, ◌+◌, ◌^◌, ◌∙◌, ap, sym, s
 use Rattle.tez_ids.specs.Same.{task}
 use Rattle.tez_lists.specs.Numbers.{numbers_from}
 use Rattle.tez_core.specs.Choosing.{count_at}
-use Rattle.tez_master_view.specs.State.{MasterState}
+use Rattle.tez_master_model.specs.State.{MasterState}
 use Rattle.tez_lead.specs.Losing.{withdrawn_at}
 use Rattle.tez_lead.proofs.NodeLoss.{fold_map_suc, row_below}
 use Rattle.tez_lead.proofs.parts.Lead.withdraw_from.Goals as goal

@@ -1,5 +1,5 @@
 use Rattle.std.proofs.Common.{◌≡◌, ◌+◌, ◌*◌, ◌^◌, ◌∙◌, ap, sym, subst, suc, arith, fold, length, refl}
-use Rattle.tez_master_view.specs.State.{MasterState}
+use Rattle.tez_master_model.specs.State.{MasterState}
 use Rattle.tez_lead.specs.Kept.{AreVertices}
 use Rattle.tez_lead.specs.Losing.{RoomsBelow}
 use Rattle.tez_lead.proofs.NodeLoss.{wider, withdraw_step, withdraws_on}

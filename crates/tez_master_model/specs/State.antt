@@ -1,5 +1,5 @@
 -- What a master that is up goes by: its parts, and what it knows beside them.
---     lies         by vertex and task of the plan, the node slot where the pieces of the task's winner lie, if they lie anywhere
+--     locations    by vertex and task of the plan, the node slot where the pieces of the task's winner lie, if they lie anywhere
 --     readied      by vertex, whether its sink counts as readied
 --     published    by vertex, whether its sink is published
 --     up           it has not purged what is left over

@@ -11,8 +11,8 @@ use Rattle.tez_router.specs.Table.{fetches_in, first_complete}
 use Rattle.tez_schedule.specs.Table.{next_configure, next_queue}
 use Rattle.tez_history.specs.Shape.{sinks}
 use Rattle.tez_history.specs.Steps.{by_depth}
-use Rattle.tez_master_view.specs.State.{MasterState}
-use Rattle.tez_master_view.specs.Read.{queued_in, free_place, flag, are_done, all_sinks, is_running}
+use Rattle.tez_master_model.specs.State.{MasterState}
+use Rattle.tez_master_model.specs.Read.{queued_in, free_place, flag, are_done, all_sinks, is_running}
 
 abbrev pub or_else : {X : Type 0} → Option X → Option X → Option X
 or_else None other = other

@@ -1,6 +1,7 @@
 -- The entries that an event adds, from what the master holds before it.
 --     entries_in m e          those of an event that may come
 --     withdrawal_in m r w     a winner is withdrawn, with the notices of this router
+--     notice_entry n          the line of a notice
 use Rattle.std.specs.Prelude.{ℕ, suc, Bool, false, if◌then◌else◌, List, [], ◌∷◌, ◌++◌, map, slice_get, Option, Some, None, unwrap_or}
 use Rattle.std.specs.List.{flat_map}
 use Rattle.std.specs.Option.{option_map_or}
@@ -12,17 +13,21 @@ use Rattle.tez_vman.specs.declared.seen.Config.{Config}
 use Rattle.tez_vman.specs.Rules.{config as shape}
 use Rattle.tez_events.specs.declared.KillCause.TheVariants.{Node, Preempt as Preempted}
 use Rattle.tez_events.specs.declared.Entry.{Entry}
-use Rattle.tez_events.specs.declared.Entry.TheVariants.{Configured, Queued, Placed, Fetched, ReadError, Ordered, Failed, Killed, NodeLost, OutputLost, Rerun, Ready as Readied, Published, CommitStarted, Finished, Purged}
+use Rattle.tez_events.specs.declared.Entry.TheVariants.{Configured, Queued, Placed, Fetched, ReadError, InputFailed, Ordered, Failed, Killed, NodeLost, OutputLost, Rerun, Ready as Readied, Published, CommitStarted, Finished, Purged}
 use Rattle.tez_events.specs.declared.CoreEvent.{CoreEvent}
 use Rattle.tez_events.specs.declared.CoreEvent.TheVariants.{Open, Configure, Queue, Place, Fetch, Send, Preempt, Fail, LoseNode, LoseOutput, Restart, Ready, CommitStart, Publish, Finish, Purge}
 use Rattle.tez_task.specs.Table.{is_last}
 use Rattle.tez_pool.specs.Table.{held_on}
+use Rattle.tez_router.specs.declared.notice.Notice.{Notice}
 use Rattle.tez_router.specs.State.{RouterState}
 use Rattle.tez_router.specs.Table.{notices_in, without}
-use Rattle.tez_router_view.specs.Events.{notice_entry}
 use Rattle.tez_schedule.specs.Table.{configures_at}
-use Rattle.tez_master_view.specs.State.{MasterState}
-use Rattle.tez_master_view.specs.Read.{task_in, winner_in, next_in, is_on_shelf, source_in, lost_in}
+use Rattle.tez_master_model.specs.State.{MasterState}
+use Rattle.tez_master_model.specs.Read.{task_in, winner_in, next_in, is_on_shelf, source_in, lost_in}
+
+-- those that wait for a withdrawn winner are told
+abbrev pub notice_entry : Notice → Entry
+notice_entry n = InputFailed n.attempt n.edge n.input n.lost
 
 abbrev pub requeue_in : MasterState → TaskId → List Entry
 requeue_in m t = Queued (next_in m t) ∷ []

@@ -8,9 +8,9 @@ use Rattle.tez_events.specs.declared.CoreEvent.TheVariants.{Configure}
 use Rattle.tez_pool.specs.Table.{place_held}
 use Rattle.tez_router.specs.Configure.{CanConfigure}
 use Rattle.tez_schedule.specs.Table.{configures_at, is_task}
-use Rattle.tez_master_view.specs.State.{MasterState}
-use Rattle.tez_master_view.specs.Read.{is_queued, processes}
-use Rattle.tez_master_view.specs.Enabled.{enabled_in}
+use Rattle.tez_master_model.specs.State.{MasterState}
+use Rattle.tez_master_model.specs.Read.{is_queued, processes}
+use Rattle.tez_master_model.specs.Enabled.{enabled_in}
 
 abbrev pub CanHaveConfig : MasterState → ℕ → Type 0
 CanHaveConfig m v = IfSome (configures_at m.schedule v) (CanConfigure m.router v)

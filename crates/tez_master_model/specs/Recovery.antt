@@ -24,13 +24,13 @@ use Rattle.tez_standing.specs.declared.state.Phase.TheVariants.{Running, CommitS
 use Rattle.tez_standing.specs.declared.state.Standing.{Standing}
 use Rattle.tez_task.specs.TaskState.{TaskState}
 use Rattle.tez_vertex.specs.Table.{IsFresh}
-use Rattle.tez_vertex_view.specs.View.{carry_one, keep_one}
+use Rattle.tez_master_model.specs.Vertices.{carry_one, keep_one}
 use Rattle.tez_router.specs.Table.{after_announce}
 use Rattle.tez_router.specs.Configure.{CanConfigure}
 use Rattle.tez_schedule.specs.Table.{can_configure, is_task, after_schedule, after_win}
-use Rattle.tez_master_view.specs.State.{MasterState}
-use Rattle.tez_master_view.specs.Read.{task_in}
-use Rattle.tez_master_view.specs.Settled.{with_config, with_location}
+use Rattle.tez_master_model.specs.State.{MasterState}
+use Rattle.tez_master_model.specs.Read.{task_in}
+use Rattle.tez_master_model.specs.Settled.{with_config, with_location}
 
 -- no node where its pieces are lost, or where it made none
 pub record KeptState : Type 0 where

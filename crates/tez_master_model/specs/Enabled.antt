@@ -8,14 +8,14 @@ use Rattle.tez_events.specs.declared.CoreEvent.{CoreEvent}
 use Rattle.tez_events.specs.declared.CoreEvent.TheVariants.{Open, Configure, Queue, Place, Fetch, Send, Preempt, Fail, LoseNode, LoseOutput, Restart, Ready, CommitStart, Publish, Finish, Purge}
 use Rattle.tez_attempt.specs.declared.AttemptState.{AttemptState}
 use Rattle.tez_attempt.specs.declared.AttemptState.TheVariants.{Queued, Placed, Processing, Succeeded, Failed, Killed}
-use Rattle.tez_master_view.specs.declared.why.Why.{Why}
-use Rattle.tez_master_view.specs.declared.why.Why.TheVariants.{Over, Down, OldEpoch, UnknownAttempt, AttemptEnded, Stranger, NotEnabled}
+use Rattle.tez_master_model.specs.declared.why.Why.{Why}
+use Rattle.tez_master_model.specs.declared.why.Why.TheVariants.{Over, Down, OldEpoch, UnknownAttempt, AttemptEnded, Stranger, NotEnabled}
 use Rattle.tez_task.specs.TaskState.{TaskState}
 use Rattle.tez_task.specs.Table.{state_of}
 use Rattle.tez_router.specs.Table.{fetched_in, missing_in}
 use Rattle.tez_schedule.specs.Table.{configures_at, may_queue}
-use Rattle.tez_master_view.specs.State.{MasterState}
-use Rattle.tez_master_view.specs.Read.{task_in, winner_in, is_queued, waits, processes, depth_in, is_shallower_queued, free_place, is_free_place, is_on_shelf, source_in, are_done, first_sink, all_sinks, is_running}
+use Rattle.tez_master_model.specs.State.{MasterState}
+use Rattle.tez_master_model.specs.Read.{task_in, winner_in, is_queued, waits, processes, depth_in, is_shallower_queued, free_place, is_free_place, is_on_shelf, source_in, are_done, first_sink, all_sinks, is_running}
 
 abbrev pub is_lost : MasterState → Option AttemptId → Bool
 is_lost m None = false

@@ -14,8 +14,8 @@ use Rattle.tez_task.specs.TaskState.{TaskState}
 use Rattle.tez_task.specs.Table.{new_task, restored}
 use Rattle.tez_vertex.specs.Vertex.{Vertex}
 use Rattle.tez_vertex.specs.Table.{new_vertex, task_of, new_tasks, after_configure, after_restore, restore_by, IsFresh}
-use Rattle.tez_vertex_view.specs.View.{new_vertices, change, change_by, configure_one, carry_one, failures_in, keep_one, IsRestorable, AreRestorable}
-use Rattle.tez_vertex_view.proofs.Taking.{get_below, get_above}
+use Rattle.tez_master_model.specs.Vertices.{new_vertices, change, change_by, configure_one, carry_one, failures_in, keep_one, IsRestorable, AreRestorable}
+use Rattle.tez_master_model.proofs.Numbers.{get_below, get_above}
 
 -- ---- lists of which one element changed
 

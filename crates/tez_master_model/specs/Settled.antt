@@ -15,13 +15,13 @@ use Rattle.tez_events.specs.declared.CoreEvent.TheVariants.{Open, Configure, Que
 use Rattle.tez_task.specs.declared.TaskEvent.{TaskEvent}
 use Rattle.tez_task.specs.declared.TaskEvent.TheVariants as task_event
 use Rattle.tez_vertex.specs.Table.{after_configure as configured_vertex}
-use Rattle.tez_vertex_view.specs.View.{change, take_in}
+use Rattle.tez_master_model.specs.Vertices.{change, take_in}
 use Rattle.tez_pool.specs.Table.{place_of, held_on, after_place, after_sent, after_release, after_loss}
 use Rattle.tez_router.specs.Table.{after_admit, after_dismiss, after_announce, after_withdraw, after_fetched}
 use Rattle.tez_router.specs.Configure.{after_set_edges, links_for}
 use Rattle.tez_schedule.specs.Table.{configures_at, after_configure, after_schedule, after_win, after_withdraw as unscheduled_win}
-use Rattle.tez_master_view.specs.State.{MasterState}
-use Rattle.tez_master_view.specs.Read.{is_on_shelf, source_in, lost_in}
+use Rattle.tez_master_model.specs.State.{MasterState}
+use Rattle.tez_master_model.specs.Read.{is_on_shelf, source_in, lost_in}
 
 abbrev pub took : MasterState → TaskId → TaskEvent → MasterState
 took m t e = record m { vertices = take_in m.vertices t e }

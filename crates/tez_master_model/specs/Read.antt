@@ -28,7 +28,7 @@ use Rattle.tez_router.specs.Table.{source_in as router_source, output_in}
 use Rattle.tez_schedule.specs.Table.{are_done as schedule_done}
 use Rattle.tez_history.specs.Shape.{sinks, has_edge_out}
 use Rattle.tez_history.specs.Steps.{is_first_without}
-use Rattle.tez_master_view.specs.State.{MasterState}
+use Rattle.tez_master_model.specs.State.{MasterState}
 
 -- ---- tasks and attempts
 

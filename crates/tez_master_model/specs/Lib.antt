@@ -1,0 +1,12 @@
+pub mod State
+pub mod Vertices
+pub mod Read
+pub mod Enabled
+pub mod Entries
+pub mod Settled
+pub mod Choice
+pub mod Steady
+pub mod Bytes
+pub mod Victim
+pub mod Fresh
+pub mod Recovery
