@@ -1,9 +1,7 @@
 -- The first of numbers that passes a test, and tests of some element.
 use Rattle.std.specs.Prelude.{◌≡◌, ℕ, zero, suc, ◌+◌, ◌<◌, ◌≤◌, ◌==◌, ◌&&◌, ◌||◌, ◌++◌, Bool, true, false, not, if◌then◌else◌, List, [], ◌∷◌, map, take, drop, length, slice_get, slice_set, Some, None, is_none, refl}
-use Rattle.std.specs.List.{find, filter, flat_map, list_any, list_all}
-use Rattle.std.proofs.lemmas.List.Folds.{list_any-append}
-use Rattle.std.proofs.lemmas.Option.{same_Some}
-use Rattle.std.specs.Option.{option_map, option_map_or}
+use Rattle.std.specs.List.{find, filter, list_any, list_all}
+use Rattle.std.specs.Option.{option_map_or}
 use Rattle.std.proofs.Common.{ap, sym, ◌∙◌, arith, get_or, add-zero, zero-add}
 use Rattle.tez_lists.specs.Numbers.{numbers_from}
 use Rattle.tez_history.specs.Steps.{is_first_without}
@@ -91,28 +89,6 @@ more_from f a (suc n) = let e : suc a + n ≡ a + suc n = omega arith in ap (λ 
 
 pub one_more : {X : Type 0} (f : ℕ → X) (n : ℕ) → map f (numbers_from 0 (n + 1)) ≡ map f (numbers_from 0 n) ++ f n ∷ []
 one_more f n = let e : n + 1 ≡ suc n = omega arith in ap (λ k. map f (numbers_from 0 k)) e ∙ more_from f 0 n ∙ ap (λ k. map f (numbers_from 0 n) ++ f k ∷ []) (zero-add n)
-
--- ---- tests of some element of several lists
-
-pub any_flat : {X Y : Type 0} (p : Y → Bool) (f : X → List Y) (xs : List X) → list_any p (flat_map f xs) ≡ list_any (λ x. list_any p (f x)) xs
-any_flat p f [] = refl
-any_flat p f (x ∷ xs) = list_any-append p (f x) (flat_map f xs) ∙ ap (λ b. list_any p (f x) || b) (any_flat p f xs)
-
-pub test_more : {X : Type 0} (p : X → Bool) (xs : List X) (i : ℕ) → list_any p (take i xs) ≡ false → option_map p (slice_get xs i) ≡ Some false → list_any p (take (suc i) xs) ≡ false
-test_more p [] i none fails = cc
-test_more p (x ∷ xs) zero none fails = ap (λ b. b || false) (same_Some (p x) false fails)
-test_more p (x ∷ xs) (suc i) none fails = by (p x) none (λ n. test_more p xs i n fails) where
-  by : (b : Bool) → (b || list_any p (take i xs)) ≡ false → (list_any p (take i xs) ≡ false → list_any p (take (suc i) xs) ≡ false) → (b || list_any p (take (suc i) xs)) ≡ false
-  by true n rest = n
-  by false n rest = rest n
-
-pub test_at : {X : Type 0} (p : X → Bool) (xs : List X) (i : ℕ) → option_map p (slice_get xs i) ≡ Some true → list_any p xs ≡ true
-test_at p [] i passes = cc
-test_at p (x ∷ xs) zero passes = ap (λ b. b || list_any p xs) (same_Some (p x) true passes)
-test_at p (x ∷ xs) (suc i) passes = by (p x) (test_at p xs i passes) where
-  by : (b : Bool) → list_any p xs ≡ true → (b || list_any p xs) ≡ true
-  by true rest = refl
-  by false rest = rest
 
 pub all_taken : {X : Type 0} (xs : List X) (i : ℕ) → length xs ≤ i → take i xs ≡ xs
 all_taken [] zero l = refl

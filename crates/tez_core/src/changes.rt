@@ -1,10 +1,9 @@
 //! What each event makes of the parts.
-ghost use Rattle.std.specs.Prelude.{◌≡◌, ◌<◌, ◌+◌, ◌^◌, true, length, slice_get, IfSome, None, OnOk, OnErr};
+ghost use Rattle.std.specs.Prelude.{◌≡◌, ◌<◌, ◌+◌, ◌^◌, true, length, slice_get, IfSome, None};
 ghost use Rattle.tez_ids.specs.declared.VertexId.{VertexId};
 ghost use Rattle.tez_events.specs.declared.CoreEvent.{CoreEvent};
 ghost use Rattle.tez_task.specs.TaskState.{HasRoom};
 ghost use Rattle.tez_task.specs.declared.TaskEvent.{TaskEvent};
-ghost use Rattle.tez_pool.specs.Table.{place_held};
 ghost use Rattle.tez_schedule.specs.Table.{is_task};
 ghost use Rattle.tez_master_model.specs.Read.{task_in, source_in};
 ghost use Rattle.tez_master_model.specs.Settled.{settled, killed, without_node, withdrawn, unreadied, with_location, released, after_fetch, after_done, slot_in};
@@ -13,7 +12,6 @@ use crate::flags::{clear_all, set_flag};
 use crate::locations::{drop_slot, set_location};
 use crate::parts::Core;
 use crate::tasks::take;
-use std::alloc::{AllocError, Global};
 use tez_ids::{AttemptId, EdgeId, TaskId, VertexId};
 use tez_task::TaskEvent;
 
@@ -25,20 +23,6 @@ impl Core {
     {
         take(&mut self.vertices, t, TaskEvent::Queue);
         self.schedule.schedule(t);
-    }
-
-    /// A queued attempt takes a place. Takes the memory that its fetches need, and changes nothing
-    /// where there is none.
-    pub fn place(&mut self, alloc: Global, a: AttemptId, place: u32) -> Result<(), AllocError>
-        requires room { IfSome (task_in self.old a.task) HasRoom }
-        requires absent { place_held self.old.pool.places a ≡ None }
-        ensures placed { OnOk result (self.new ≡ settled self.old (CoreEvent.Place a place)) }
-        ensures refused { OnErr result (self.new ≡ self.old) }
-    {
-        self.router.admit(alloc, a)?;
-        take(&mut self.vertices, a.task, TaskEvent::Place(a));
-        let _container = self.pool.place(a, place);
-        Ok(())
     }
 
     /// A waiting attempt fetches an input. Where the pieces are on no shelf the winner that made

@@ -12,9 +12,9 @@ ghost use Rattle.tez_master_model.specs.Read.{is_on_slot};
 ghost use Rattle.tez_master_model.specs.Choice.{first_without, ready_choice, commit_choice, publish_choice, finish_choice};
 ghost use Rattle.tez_core.specs.Choosing.{queued_one, queued_at, count_at, work_choice, end_choice, lost_at};
 
+use crate::depths;
 use crate::parts::Core;
 use crate::reads::is_in_queue;
-use crate::shallower;
 use crate::sinks::{first_open, has_edge_out};
 use crate::tasks::vertex_of;
 use tez_events::CoreEvent;
@@ -78,7 +78,7 @@ impl Core {
     pub fn depth_of(&self, v: VertexId) -> u32
         ensures { result ≡ depth self.now.plan v.0 }
     {
-        shallower::depth_of(&self.plan, v)
+        depths::depth_of(&self.plan, v)
     }
 
     /// Whether the commit has begun.

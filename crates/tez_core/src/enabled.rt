@@ -1,11 +1,9 @@
 //! Which events may come, and why another one may not.
 ghost use Rattle.std.specs.Prelude.{◌≡◌};
 ghost use Rattle.tez_events.specs.declared.CoreEvent.{CoreEvent};
-ghost use Rattle.tez_master_model.specs.Read.{is_shallower_queued, depth_in};
 ghost use Rattle.tez_master_model.specs.Enabled.{enabled_in, is_lost, or_not_enabled, why_not};
 
 use crate::parts::Core;
-use crate::shallower::{any_shallower, depth_of};
 use tez_events::CoreEvent;
 use tez_ids::{AttemptId, EdgeId, TaskId, VertexId};
 use tez_master_model::Why;
@@ -64,27 +62,6 @@ impl Core {
         ensures { result ≡ enabled_in self.now (CoreEvent.Send a) }
     {
         self.is_running() && self.waits(a) && self.router.missing(a) == 0
-    }
-
-    /// Whether a waiting attempt may give up its place: no place is free, and a queued attempt has a
-    /// lesser depth. Takes time in the tasks.
-    pub fn may_preempt(&self, a: AttemptId) -> bool
-        ensures { result ≡ enabled_in self.now (CoreEvent.Preempt a) }
-    {
-        self.is_running()
-            && self.waits(a)
-            && self.free_place().is_none()
-            && self.is_shallower_queued(a)
-    }
-
-    fn is_shallower_queued(&self, a: AttemptId) -> bool
-        ensures { result ≡ is_shallower_queued self.now (depth_in self.now a) }
-    {
-        any_shallower(
-            &self.plan,
-            &self.vertices,
-            depth_of(&self.plan, a.task.vertex),
-        )
     }
 
     /// Whether an attempt may fail: its order is out.
@@ -150,30 +127,6 @@ impl Core {
         ensures { result ≡ enabled_in self.now CoreEvent.Purge }
     {
         self.up && self.finished
-    }
-
-    /// Whether an event may come now. To open and to restart is not the master's.
-    pub fn is_enabled(&self, e: &CoreEvent) -> bool
-        ensures { result ≡ enabled_in self.now e.now }
-    {
-        match *e {
-            CoreEvent::Open => false,
-            CoreEvent::Configure(v) => self.may_configure(v),
-            CoreEvent::Queue(t) => self.may_queue(t),
-            CoreEvent::Place(a, place) => self.may_place(a, place),
-            CoreEvent::Fetch(a, e, input) => self.may_fetch(a, e, input),
-            CoreEvent::Send(a) => self.may_send(a),
-            CoreEvent::Preempt(a) => self.may_preempt(a),
-            CoreEvent::Fail(a) => self.may_fail(a),
-            CoreEvent::LoseNode(slot) => self.may_lose_node(slot),
-            CoreEvent::LoseOutput(t) => self.may_lose_output(t),
-            CoreEvent::Restart => false,
-            CoreEvent::Ready(v) => self.may_ready(v),
-            CoreEvent::CommitStart => self.may_start_commit(),
-            CoreEvent::Publish(v) => self.may_publish(v),
-            CoreEvent::Finish => self.may_finish(),
-            CoreEvent::Purge => self.may_purge(),
-        }
     }
 
     /// Why an event is ignored that may not come.

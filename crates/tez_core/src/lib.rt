@@ -5,6 +5,7 @@
 mod changes;
 mod choosing;
 mod configure;
+mod depths;
 mod enabled;
 mod flags;
 mod fresh;
@@ -16,7 +17,6 @@ mod parts;
 mod prepared;
 mod reads;
 mod restoring;
-mod shallower;
 mod sinks;
 mod tasks;
 mod telling;

@@ -1,5 +1,5 @@
 //! What each event makes of the parts, with the queue.
-ghost use Rattle.std.specs.Prelude.{◌≡◌, ◌<◌, ◌+◌, ◌^◌, true, length, slice_get, is_some, IfSome, None, OnOk, OnErr};
+ghost use Rattle.std.specs.Prelude.{◌≡◌, ◌<◌, ◌+◌, ◌^◌, true, length, slice_get, is_some, IfSome, None};
 ghost use Rattle.tez_events.specs.declared.CoreEvent.{CoreEvent};
 ghost use Rattle.tez_task.specs.TaskState.{HasRoom};
 ghost use Rattle.tez_pool.specs.Table.{place_held};
@@ -12,7 +12,6 @@ ghost use Rattle.tez_core.specs.Choosing.{queued_at};
 ghost use Rattle.tez_core.specs.Prepared.{IsPreparedFor, IsAdmissionFor};
 
 use crate::parts::Lead;
-use std::alloc::{AllocError, Global};
 use tez_core::{Core, NewConfig};
 use tez_ids::{AttemptId, EdgeId, TaskId, VertexId};
 use tez_queue::TaskQueue;
@@ -37,20 +36,6 @@ impl Lead {
     {
         self.core.queue(t);
         refresh(&self.core, &mut self.queue, t);
-    }
-
-    /// A queued attempt takes a place. Takes the memory that its fetches need, and changes nothing
-    /// where there is none.
-    pub fn place(&mut self, alloc: Global, a: AttemptId, place: u32) -> Result<(), AllocError>
-        requires room { IfSome (task_in self.old a.task) HasRoom }
-        requires absent { place_held self.old.pool.places a ≡ None }
-        requires queued { is_queued self.old a ≡ true }
-        ensures placed { OnOk result (self.new ≡ settled self.old (CoreEvent.Place a place)) }
-        ensures refused { OnErr result (self.new ≡ self.old) }
-    {
-        self.core.place(alloc, a, place)?;
-        refresh(&self.core, &mut self.queue, a.task);
-        Ok(())
     }
 
     /// Configures a vertex, with what `prepare_configure` of the parts gave. Takes no memory, and time

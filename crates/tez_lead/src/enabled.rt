@@ -16,8 +16,22 @@ impl Lead {
         ensures { result ≡ enabled_in self.now e.now }
     {
         match *e {
+            CoreEvent::Open => false,
+            CoreEvent::Configure(v) => self.core.may_configure(v),
+            CoreEvent::Queue(t) => self.core.may_queue(t),
+            CoreEvent::Place(a, place) => self.core.may_place(a, place),
+            CoreEvent::Fetch(a, e, input) => self.core.may_fetch(a, e, input),
+            CoreEvent::Send(a) => self.core.may_send(a),
             CoreEvent::Preempt(a) => self.may_preempt(a),
-            _ => self.core.is_enabled(e),
+            CoreEvent::Fail(a) => self.core.may_fail(a),
+            CoreEvent::LoseNode(slot) => self.core.may_lose_node(slot),
+            CoreEvent::LoseOutput(t) => self.core.may_lose_output(t),
+            CoreEvent::Restart => false,
+            CoreEvent::Ready(v) => self.core.may_ready(v),
+            CoreEvent::CommitStart => self.core.may_start_commit(),
+            CoreEvent::Publish(v) => self.core.may_publish(v),
+            CoreEvent::Finish => self.core.may_finish(),
+            CoreEvent::Purge => self.core.may_purge(),
         }
     }
 

@@ -1,6 +1,6 @@
 use Rattle.std.proofs.Common.{◌≤◌, ap, sym, arith, length}
 use Rattle.tez_core.proofs.Plans.{depth_outside}
-use Rattle.tez_core.proofs.shallower.depth_of.Goals as goal
+use Rattle.tez_core.proofs.depths.depth_of.Goals as goal
 
 pub returns-else-v-vertices : goal.returns-else-v-vertices
 returns-else-v-vertices c =
