@@ -7,7 +7,7 @@ ghost use Rattle.tez_plan.specs.Order.{depth};
 ghost use Rattle.tez_queue.specs.Queue.{of_depth, row_of};
 ghost use Rattle.tez_queue.specs.Kept.{by_depth, start_of, tasks_of};
 
-use crate::rows::{Row, count_of};
+use crate::rows::{QueueRow, count_of};
 use std::alloc::{AllocError, Global};
 use tez_ids::{TaskId, VertexId};
 use tez_plan::{Plan, depth};
@@ -47,7 +47,7 @@ pub fn by_depth(alloc: Global, depths: &[u32]) -> Result<Vec<u16>, AllocError>
     Ok(vertices)
 }
 
-fn add_tasks(tasks: &mut Vec<TaskId>, rows: &[Row], v: u16) -> Result<(), AllocError>
+fn add_tasks(tasks: &mut Vec<TaskId>, rows: &[QueueRow], v: u16) -> Result<(), AllocError>
     ensures { OnOk result (tasks.new.items ≡ tasks.old.items ++ tasks_of rows.now v) }
 {
     for index in 0..count_of(rows, v) {
@@ -62,7 +62,7 @@ fn add_tasks(tasks: &mut Vec<TaskId>, rows: &[Row], v: u16) -> Result<(), AllocE
 /// The tasks of the vertices in this order.
 pub fn tasks_in_order(
     alloc: Global,
-    rows: &[Row],
+    rows: &[QueueRow],
     vertices: &[u16],
 ) -> Result<Vec<TaskId>, AllocError>
     ensures { IfOk result (λ tasks. tasks.items ≡ flat_map (tasks_of rows.now) vertices.now) }
@@ -75,7 +75,7 @@ pub fn tasks_in_order(
 }
 
 /// How many tasks stand before those of a vertex.
-pub fn start_of(rows: &[Row], vertices: &[u16], v: u16) -> u32
+pub fn start_of(rows: &[QueueRow], vertices: &[u16], v: u16) -> u32
     requires few { length vertices.now ≤ 4096 }
     requires low { (w : ℕ) → length (row_of rows.now w) ≤ most_tasks }
     ensures { result ≡ start_of rows.now vertices.now v }
@@ -91,7 +91,7 @@ pub fn start_of(rows: &[Row], vertices: &[u16], v: u16) -> u32
 }
 
 /// The same for each vertex.
-pub fn starts_of(alloc: Global, rows: &[Row], vertices: &[u16]) -> Result<Vec<u32>, AllocError>
+pub fn starts_of(alloc: Global, rows: &[QueueRow], vertices: &[u16]) -> Result<Vec<u32>, AllocError>
     requires some { length rows.now ≤ 64 }
     requires few { length vertices.now ≤ 4096 }
     requires low { (w : ℕ) → length (row_of rows.now w) ≤ most_tasks }

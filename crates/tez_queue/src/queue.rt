@@ -2,7 +2,7 @@ ghost use Rattle.std.specs.Prelude.{◌≡◌, true, false, IfOk};
 ghost use Rattle.tez_queue.specs.Queue.{empty_queue, first, has, with_task};
 
 use crate::order::{by_depth, depths_of, starts_of, tasks_in_order};
-use crate::rows::{Row, count_of, empty_rows, set_in};
+use crate::rows::{QueueRow, count_of, empty_rows, set_in};
 use std::alloc::{AllocError, Global};
 use std::marker::Model;
 use tez_ids::TaskId;
@@ -14,7 +14,7 @@ use tez_tournament::Tournament;
 #[derive(Drop)]
 pub struct TaskQueue {
     depths: Vec<u32>,
-    rows: Vec<Row>,
+    rows: Vec<QueueRow>,
     // By vertex, the place of its first task among the tasks in order.
     starts: Vec<u32>,
     tasks: Vec<TaskId>,

@@ -11,11 +11,11 @@ use tez_plan::VertexSpec;
 
 /// A truth value for each task of a vertex, of which contracts see the list.
 #[derive(Drop)]
-pub struct Row {
+pub struct QueueRow {
     flags: Vec<bool>,
 }
 
-impl Model for Row {
+impl Model for QueueRow {
     ghost use Rattle.std.specs.Prelude.{Bool, List, ◌<◌, ◌^◌, length};
 
     ghost Value = { List Bool };
@@ -25,11 +25,11 @@ impl Model for Row {
     ghost invariant = { λ r. length r.flags.items < 2 ^ 32 };
 }
 
-impl Row {
+impl QueueRow {
     pub fn new(alloc: Global, tasks: u32) -> Result<Self, AllocError>
         ensures { IfOk result (λ row. row ≡ replicate tasks false) }
     {
-        Ok(Row {
+        Ok(QueueRow {
             flags: vec![in alloc; false; tasks as usize]?,
         })
     }
@@ -60,18 +60,18 @@ impl Row {
 }
 
 /// The rows of these vertices, in which no task is.
-pub fn empty_rows(alloc: Global, vertices: &[VertexSpec]) -> Result<Vec<Row>, AllocError>
+pub fn empty_rows(alloc: Global, vertices: &[VertexSpec]) -> Result<Vec<QueueRow>, AllocError>
     ensures { IfOk result (λ rows. rows.items ≡ map (λ (s : VertexSpec). replicate s.tasks false) vertices.now) }
 {
     let mut rows = Vec::with_capacity(alloc, vertices.len())?;
     for vertex in vertices {
-        rows.push(Row::new(alloc, vertex.tasks)?)?;
+        rows.push(QueueRow::new(alloc, vertex.tasks)?)?;
     }
     Ok(rows)
 }
 
 /// How many tasks a vertex has. 0 where there is no such vertex.
-pub fn count_of(rows: &[Row], v: u16) -> u32
+pub fn count_of(rows: &[QueueRow], v: u16) -> u32
     ensures { result ≡ length (row_of rows.now v) }
 {
     match rows.get(v as usize) {
@@ -81,7 +81,7 @@ pub fn count_of(rows: &[Row], v: u16) -> u32
 }
 
 /// Writes a truth value at a task. Changes nothing where there is no such task.
-pub fn set_in(rows: &mut [Row], t: TaskId, present: bool)
+pub fn set_in(rows: &mut [QueueRow], t: TaskId, present: bool)
     ensures { rows.new ≡ set_in rows.old t.vertex.0 t.index present }
 {
     let v = t.vertex.0 as usize;

@@ -5,7 +5,7 @@ ghost use Rattle.tez_router.specs.Table.{can_fetch, fetches_over, edge_fetches, 
 
 use crate::admitted::{Admitted, Inputs};
 use crate::link::Link;
-use crate::winners::{Row, winner_at};
+use crate::winners::{WinnerRow, winner_at};
 use tez_ids::{AttemptId, EdgeId};
 use tez_runs::Runs;
 
@@ -17,7 +17,7 @@ pub struct Fetch {
     pub input: u32,
 }
 
-fn can_fetch(rows: &[Row], link: &Link, consumer: u32, fetched: &Runs, input: u32) -> bool
+fn can_fetch(rows: &[WinnerRow], link: &Link, consumer: u32, fetched: &Runs, input: u32) -> bool
     ensures { result ≡ can_fetch rows.now link.now consumer fetched.now input }
 {
     if fetched.is_set(input) {
@@ -29,7 +29,7 @@ fn can_fetch(rows: &[Row], link: &Link, consumer: u32, fetched: &Runs, input: u3
     }
 }
 
-fn first_over(rows: &[Row], link: &Link, attempt: AttemptId, inputs: &Inputs) -> Option<Fetch>
+fn first_over(rows: &[WinnerRow], link: &Link, attempt: AttemptId, inputs: &Inputs) -> Option<Fetch>
     ensures { result ≡ slice_get (fetches_over rows.now (Some link.now) attempt inputs.now) 0 }
 {
     let fetched = inputs.fetched();
@@ -52,7 +52,12 @@ fn first_over(rows: &[Row], link: &Link, attempt: AttemptId, inputs: &Inputs) ->
     None
 }
 
-fn first_by_edge(links: &[Link], rows: &[Row], attempt: AttemptId, inputs: &Inputs) -> Option<Fetch>
+fn first_by_edge(
+    links: &[Link],
+    rows: &[WinnerRow],
+    attempt: AttemptId,
+    inputs: &Inputs,
+) -> Option<Fetch>
     ensures { result ≡ slice_get (edge_fetches links.now rows.now attempt inputs.now) 0 }
 {
     match links.get(inputs.edge().0 as usize) {
@@ -63,7 +68,7 @@ fn first_by_edge(links: &[Link], rows: &[Row], attempt: AttemptId, inputs: &Inpu
 
 fn first_of_edges(
     links: &[Link],
-    rows: &[Row],
+    rows: &[WinnerRow],
     attempt: AttemptId,
     edges: &[Inputs],
 ) -> Option<Fetch>
@@ -78,7 +83,7 @@ fn first_of_edges(
 }
 
 /// The first by attempt, edge and input.
-pub fn first_fetch(links: &[Link], rows: &[Row], admitted: &[Admitted]) -> Option<Fetch>
+pub fn first_fetch(links: &[Link], rows: &[WinnerRow], admitted: &[Admitted]) -> Option<Fetch>
     ensures { result ≡ slice_get (flat_map (attempt_fetches links.now rows.now) admitted.now) 0 }
 {
     for x in admitted {

@@ -8,19 +8,19 @@ ghost use Rattle.tez_router.specs.Edges.{AreNumberedFrom};
 ghost use Rattle.tez_router.specs.Planned.{routing_by, planned_link, no_winners};
 
 use crate::link::Link;
-use crate::winners::Row;
+use crate::winners::WinnerRow;
 use std::alloc::{AllocError, Global};
 use tez_edges::{Broadcast, Manager, OneToOne, ScatterGather};
 use tez_ids::{EdgeId, VertexId};
 use tez_plan::{Movement, Plan, VertexSpec};
 
 /// The winners of each vertex's tasks, of which there are none yet.
-pub fn planned_rows(alloc: Global, vertices: &[VertexSpec]) -> Result<Vec<Row>, AllocError>
+pub fn planned_rows(alloc: Global, vertices: &[VertexSpec]) -> Result<Vec<WinnerRow>, AllocError>
     ensures { IfOk result (λ rows. rows.items ≡ map no_winners vertices.now) }
 {
     let mut rows = Vec::new(alloc);
     for vertex in vertices {
-        rows.push(Row::new(alloc, vertex.tasks)?)?;
+        rows.push(WinnerRow::new(alloc, vertex.tasks)?)?;
     }
     Ok(rows)
 }

@@ -15,7 +15,7 @@ use crate::notice::Notice;
 use crate::notices::{Loss, notices_of};
 use crate::order::{find, put, put_within};
 use crate::planned::{planned_links, planned_rows};
-use crate::winners::{Row, winner_at};
+use crate::winners::{WinnerRow, winner_at};
 use std::alloc::{AllocError, Global};
 use std::marker::Model;
 use tez_edges::Manager;
@@ -27,7 +27,7 @@ use tez_vman::Config;
 #[derive(Drop)]
 pub struct Router {
     links: Vec<Link>,
-    winners: Vec<Row>,
+    winners: Vec<WinnerRow>,
     admitted: Vec<Admitted>,
 }
 
@@ -42,7 +42,7 @@ impl Model for Router {
     ghost invariant = { λ r. IsKept r.links.items r.admitted.items };
 }
 
-fn set_winner(rows: &mut [Row], task: TaskId, winner: Option<AttemptId>)
+fn set_winner(rows: &mut [WinnerRow], task: TaskId, winner: Option<AttemptId>)
     ensures { rows.new ≡ set_in rows.old task.vertex.0 task.index winner }
 {
     let v = task.vertex.0 as usize;

@@ -7,11 +7,11 @@ use tez_ids::{AttemptId, TaskId};
 
 /// The winners of a vertex's tasks.
 #[derive(Drop)]
-pub struct Row {
+pub struct WinnerRow {
     winners: Vec<Option<AttemptId>>,
 }
 
-impl Model for Row {
+impl Model for WinnerRow {
     ghost use Rattle.std.specs.Prelude.{List, Option};
     ghost use Rattle.tez_ids.specs.declared.AttemptId.{AttemptId};
 
@@ -20,11 +20,11 @@ impl Model for Row {
     ghost view = { λ r. r.winners.items };
 }
 
-impl Row {
+impl WinnerRow {
     pub fn new(alloc: Global, tasks: u32) -> Result<Self, AllocError>
         ensures { IfOk result (λ row. row ≡ replicate tasks None) }
     {
-        Ok(Row {
+        Ok(WinnerRow {
             winners: Vec::from_elem(alloc, None, tasks as usize)?,
         })
     }
@@ -49,7 +49,7 @@ impl Row {
 }
 
 /// The winner of a task. None where there is no such task.
-pub fn winner_at(rows: &[Row], task: TaskId) -> Option<AttemptId>
+pub fn winner_at(rows: &[WinnerRow], task: TaskId) -> Option<AttemptId>
     ensures { result ≡ winner_at rows.now task.vertex.0 task.index }
 {
     match rows.get(task.vertex.0 as usize) {

@@ -140,19 +140,6 @@ flags_counted n xs = counted (flags n xs) ∙ flags_length n xs
 pub flags_count_none : (n : ℕ) → count_by (λ b. b) (flags n []) ≡ 0
 flags_count_none n = ap (count_by (λ b. b)) (flags_none n) ∙ none_set n
 
--- the first number that is not covered, where the numbers below k are
-pub flags_first : (n k : ℕ) (xs : List Run) → k < n → ((j : ℕ) → j < k → covers xs j ≡ true) → covers xs k ≡ false → position not (flags n xs) ≡ Some k
-unfolding flags
-flags_first n k xs h all none = found (position_or_len not (flags n xs)) (first_from (covers xs) 0 n k h (λ j low high. all j (omega arith)) (ap (covers xs) (zero-add k) ∙ none)) where
-  found : (p : ℕ) → p ≡ k → cond (nat_lt p (length (flags n xs))) (Some p) None ≡ Some k
-  found p e = ap (λ q. cond (nat_lt q (length (flags n xs))) (Some q) None) e ∙ ap (λ m. cond (nat_lt k m) (Some k) None) (length_map (covers xs) 0 n) ∙ ap (λ b. cond b (Some k) None) (lt-ltb k n h)
-
-pub flags_full : (n : ℕ) (xs : List Run) → ((j : ℕ) → j < n → covers xs j ≡ true) → position not (flags n xs) ≡ None
-unfolding flags
-flags_full n xs all = found (position_or_len not (flags n xs)) (all_from (covers xs) 0 n (λ j low high. all j (omega arith))) where
-  found : (p : ℕ) → p ≡ n → cond (nat_lt p (length (flags n xs))) (Some p) None ≡ None
-  found p e = ap (λ q. cond (nat_lt q (length (flags n xs))) (Some q) None) e ∙ ap (λ m. cond (nat_lt n m) (Some n) None) (length_map (covers xs) 0 n) ∙ ap (λ b. cond b (Some n) None) (le-ltb n n (omega arith))
-
 -- ---- from a number on
 
 drop_each : {X : Type 0} (f : ℕ → X) (a n i m : ℕ) → n ≡ i + m → drop i (map f (numbers_from a n)) ≡ map f (numbers_from (a + i) m)

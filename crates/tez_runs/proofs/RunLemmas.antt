@@ -2,7 +2,6 @@
 --     low_at m at xs      the least start that a run at this place may have
 --     next_start n xs     where the first of the runs starts, and past n where there is none
 use Rattle.std.proofs.Common.{◌≡◌, ◌≢◌, ◌⊎◌, inl, inr, ℕ, zero, suc, ◌+◌, ◌-◌, ◌*◌, ◌<◌, ◌≤◌, ◌==◌, ◌||◌, Bool, true, false, List, [], ◌∷◌, ◌++◌, length, take, drop, set, get_or, refl, sym, ap, ◌∙◌, subst, arith}
-use Rattle.std.specs.Prelude.{slice_get, Some, None}
 use Rattle.std.specs.List.{insert, remove}
 use Rattle.std.specs.List.Sorted.{IsNonDecreasingBy}
 use Rattle.std.proofs.lemmas.Bool.{cases_lt}
@@ -319,38 +318,10 @@ both_at k xs at i left right a b apart spot touches too is is_next =
     let one = subst (λ (y : Run). IsAdded xs (remove (set xs (at - 1) (record { start = (get_or xs (at - 1) a).start; end = y.end })) at) i) (sym is_next) here in
     subst (λ (x : Run). IsAdded xs (remove (set xs (at - 1) (record { start = x.start; end = b.end })) at) i) (sym is) one
 
--- ---- the least number that is not there
-
-in_first : (j : ℕ) (r : Run) → r.start ≡ 0 → j < r.end → is_in j r ≡ true
-in_first j r e h = grind (arith, nat_tests)
+-- ---- the least number from one on that is not there
 
 out_at_end : (r : Run) → is_in r.end r ≡ false
 out_at_end r = grind (arith, nat_tests)
-
--- what the code finds as the first run
-pub no_first : (i : ℕ) (xs : List Run) → slice_get xs 0 ≡ None → covers xs i ≡ false
-no_first i [] h = refl
-no_first i (x ∷ xs) h = cc
-
-pub first_is_free : (n : ℕ) (x : Run) (xs : List Run) → AreApart 0 xs n → slice_get xs 0 ≡ Some x → covers xs x.end ≡ false
-first_is_free n x [] apart h = cc
-first_is_free n x (y ∷ xs) apart h =
-    let e : y ≡ x = cc in
-    ap (λ z. covers (y ∷ xs) z.end) (sym e) ∙ ap (λ b. b || covers xs y.end) (out_at_end y) ∙ none_after y.end (y.end + 1) n xs apart.2 (omega arith)
-
-pub first_is_least : (x : Run) (xs : List Run) → slice_get xs 0 ≡ Some x → x.start ≡ 0 → (j : ℕ) → j < x.end → covers xs j ≡ true
-first_is_least x [] h e j below = cc
-first_is_least x (y ∷ xs) h e j below =
-    let same : y ≡ x = cc in
-    ap (λ b. b || covers xs j) (ap (is_in j) same ∙ in_first j x e below)
-
-pub zero_is_free : (n : ℕ) (x : Run) (xs : List Run) → AreApart 0 xs n → slice_get xs 0 ≡ Some x → (x.start ≡ 0 → ⊥) → covers xs 0 ≡ false
-zero_is_free n x [] apart h e = cc
-zero_is_free n x (y ∷ xs) apart h e =
-    let same : y.start ≡ x.start = ap (λ r. r.start) (let z : y ≡ x = cc in z) in
-    none_after 0 y.start n (y ∷ xs) (omega arith, apart.1, apart.2) (omega arith)
-
--- ---- the least number from one on that is not there
 
 is_inside : (j : ℕ) (r : Run) → r.start ≤ j → j < r.end → is_in j r ≡ true
 is_inside j r low high = grind (arith, nat_tests)

@@ -29,18 +29,6 @@ pub fn holds(runs: &[Run], i: u32) -> bool
     at > 0 && i < runs[at - 1].end
 }
 
-/// The least number that is in none of the runs.
-pub fn first_free(runs: &[Run]) -> u32
-    requires { IsApart runs.now }
-    ensures free { covers runs.now result ≡ false }
-    ensures least { (j : ℕ) → j < result → covers runs.now j ≡ true }
-{
-    match runs.first() {
-        Some(run) => { if run.start == 0 { run.end } else { 0 } }
-        None => 0,
-    }
-}
-
 /// The least number from `i` on that is in none of the runs. Logarithmic.
 pub fn free_from(runs: &[Run], i: u32) -> u32
     requires { IsApart runs.now }

@@ -1,8 +1,8 @@
 ghost use Rattle.std.specs.Prelude.{◌≡◌, ◌≤◌, Bool, true, false, not, length, replicate, slice_get, slice_set, unwrap_or, IfOk};
-ghost use Rattle.std.specs.List.{count_by, position};
+ghost use Rattle.std.specs.List.{count_by};
 ghost use Rattle.tez_runs.specs.Flags.{missing_from};
 
-use crate::edit::{Run, add, first_free, free_from, holds};
+use crate::edit::{Run, add, free_from, holds};
 use std::alloc::{AllocError, Global};
 use std::marker::Model;
 
@@ -66,18 +66,6 @@ impl Runs {
         ensures { result ≡ unwrap_or (slice_get self.now i) false }
     {
         i < self.bound && holds(self.runs.as_slice(), i)
-    }
-
-    /// The least that is not set.
-    pub fn first_missing(&self) -> Option<u32>
-        ensures { result ≡ position not self.now }
-    {
-        let first = first_free(self.runs.as_slice());
-        if first < self.bound {
-            Some(first)
-        } else {
-            None
-        }
     }
 
     /// The least from `i` on that is not set. Logarithmic in the runs.
