@@ -1,12 +1,11 @@
 //! What the vertices tell of their tasks.
-ghost use Rattle.std.specs.Prelude.{◌≡◌, ◌↔◌, IsTrue, ◌<◌, None, Some, slice_get, length, IfSome, IfNone, option_and_then};
-ghost use Rattle.std.specs.Option.{option_map_or};
+ghost use Rattle.std.specs.Prelude.{◌≡◌, ◌↔◌, IsTrue, ◌<◌, None, Some, length, IfSome, IfNone, option_and_then};
 ghost use Rattle.tez_task.specs.Table.{state_of, next_of};
 ghost use Rattle.tez_vertex.specs.Table.{task_of, after_take};
 ghost use Rattle.tez_task.specs.TaskState.{HasRoom};
 ghost use Rattle.tez_master_model.specs.Vertices.{take_in};
 ghost use Rattle.tez_master_model.specs.Enabled.{why_by, why_of_task};
-ghost use Rattle.tez_core.specs.Parts.{task_at};
+ghost use Rattle.tez_core.specs.Parts.{task_at, IsVertexOf, next_at};
 
 use tez_attempt::AttemptState;
 use tez_ids::{AttemptId, Epoch, TaskId};
@@ -36,7 +35,7 @@ fn take_at(x: &mut VertexMachine, index: u32, e: TaskEvent)
 
 /// The vertex of a task, where it has the task.
 pub(crate) fn vertex_of(vertices: &[VertexMachine], t: TaskId) -> Option<&VertexMachine>
-    ensures there { IfSome result (λ x. (slice_get vertices.now t.vertex.0 ≡ Some x.now) × (t.index < length x.now.tasks)) }
+    ensures there { IfSome result (λ x. IsVertexOf vertices.now t x.now) }
     ensures none { IfNone result (task_at vertices.now t ≡ None) }
 {
     match vertices.get(t.vertex.0 as usize) {
@@ -77,7 +76,7 @@ pub(crate) fn winner_of(vertices: &[VertexMachine], t: TaskId) -> Option<Attempt
 
 /// The attempt of a task that is queued next, that of number 0 where there is no such task.
 pub(crate) fn next_of(vertices: &[VertexMachine], epoch: Epoch, t: TaskId) -> AttemptId
-    ensures { result ≡ option_map_or next_of (task_at vertices.now t) (record { epoch = record { 0 = epoch.0 }; task = t; number = 0 }) }
+    ensures { result ≡ next_at vertices.now epoch.0 t }
 {
     match vertex_of(vertices, t) {
         Some(x) => x.next(t.index),

@@ -2,8 +2,8 @@
 ghost use Rattle.std.specs.Prelude.{◌≡◌, ◌++◌, IfOk, OnOk};
 ghost use Rattle.std.specs.List.{flat_map};
 ghost use Rattle.tez_events.specs.declared.CoreEvent.{CoreEvent};
-ghost use Rattle.tez_router.specs.Table.{without};
-ghost use Rattle.tez_master_model.specs.Entries.{entries_in, node_loss_in, kill_in, withdrawal_in};
+ghost use Rattle.tez_master_model.specs.Entries.{entries_in, node_loss_in, kill_in};
+ghost use Rattle.tez_entries.specs.Lines.{lost_withdrawal, lost_withdrawals};
 ghost use Rattle.tez_entries.specs.Ranges.{HasLife};
 
 use crate::withdrawal::add_withdrawal;
@@ -67,7 +67,7 @@ fn add_withdrawals(
     held: &[AttemptId],
     lost: &[AttemptId],
 ) -> Result<(), AllocError>
-    ensures { OnOk result (entries.new.items ≡ entries.old.items ++ flat_map (withdrawal_in m.now (without m.now.router held.now)) lost.now) }
+    ensures { OnOk result (entries.new.items ≡ entries.old.items ++ lost_withdrawals m.now held.now lost.now) }
 {
     for w in lost {
         add_lost(entries, alloc, m, held, *w)?;
@@ -82,7 +82,7 @@ fn add_lost(
     held: &[AttemptId],
     w: AttemptId,
 ) -> Result<(), AllocError>
-    ensures { OnOk result (entries.new.items ≡ entries.old.items ++ withdrawal_in m.now (without m.now.router held.now) w) }
+    ensures { OnOk result (entries.new.items ≡ entries.old.items ++ lost_withdrawal m.now held.now w) }
 {
     let notices = m.notices_except(alloc, w.task, held)?;
     add_withdrawal(entries, m, &notices, w)
