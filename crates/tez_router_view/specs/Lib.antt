@@ -1,2 +1,3 @@
 pub mod View
 pub mod Events
+pub mod Statements
