@@ -16,7 +16,8 @@ use crate::fault::DagFault;
 use serde_json::Value;
 use std::alloc::Global;
 use tez_conf::Conf;
-use tez_plan::{Plan, PlanFault, plan_new};
+use tez_plan::{Plan, PlanFault};
+use tez_plan_checks::plan_new;
 
 /// The value of a JSON text.
 #[tactic(auto, using(crate::proofs::Texts::json_value, crate::proofs::Texts::no_json), unfolding(crate::specs::Form::json))]

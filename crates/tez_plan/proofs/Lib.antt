@@ -1,6 +1,5 @@
 pub mod CheckLemmas
 pub mod DepthLemmas
-pub mod FindLemmas
 pub mod GraphLemmas
 pub mod NameLemmas
 pub mod OrderLemmas

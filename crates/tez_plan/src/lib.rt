@@ -1,35 +1,24 @@
-//! Plans: vertices joined by edges, with the checks that make a plan valid.
+//! Plans: vertices joined by edges, what is wrong with a plan, and the order of its vertices.
 #![tactic(auto)]
 
 ghost use Rattle.std.specs.Prelude.{◌≡◌, ◌<◌, ◌↔◌, ℕ, length, IsFalse, IsTrue};
-ghost use Rattle.tez_plan.specs.declared.fault.PlanFault.{PlanFault};
 ghost use Rattle.tez_plan.specs.Dag.{Dag};
 ghost use Rattle.tez_plan.specs.Order.{among, depth, topo, IsLongest};
-ghost use Rattle.tez_plan.specs.Faults.{AllKnown, IsBehindCycle, IsFirstFault, IsValid};
+ghost use Rattle.tez_plan.specs.Faults.{AllKnown, IsBehindCycle, IsValid};
 
-mod check;
 mod copies;
 mod fault;
-mod faults;
 mod graph;
 mod order;
 mod parts;
 mod plan;
-mod ranges;
 
 pub use fault::PlanFault;
-pub use parts::{Columns, EdgeSpec, Head, Movement, Program, Step, Steps, Test, VertexSpec};
-pub use plan::{Plan, depth, plan_new, topo};
-pub use ranges::{
-    MOST_TASKS, are_columns, are_in_ranges, edge_in_range, is_column, is_file, is_filter_text,
-    is_name, is_number, is_sink, vertex_in_range,
+pub use graph::Graph;
+pub use parts::{
+    Columns, EdgeSpec, Head, MOST_TASKS, Movement, Program, Step, Steps, Test, VertexSpec,
 };
-
-/// At most one fault is the first, and a valid plan has none.
-pub fn first_fault_is_one()
-    ensures one { (p : Dag) (f g : PlanFault) → IsFirstFault p f → IsFirstFault p g → f ≡ g }
-    ensures none { (p : Dag) (f : PlanFault) → IsValid p → ¬ IsFirstFault p f }
-{}
+pub use plan::{Plan, depth, topo};
 
 /// The order of the vertices misses exactly those on a cycle or behind one.
 pub fn order_misses_cycles()

@@ -5,6 +5,9 @@ use std::alloc::{AllocError, Global};
 use std::marker::Model;
 use tez_ids::{Bytes, Name};
 
+/// The most tasks that a vertex may have, `most_tasks` of the contracts.
+pub const MOST_TASKS: u32 = 10_000;
+
 /// Columns of records, counted from 0, of which contracts see the list.
 #[derive(Drop)]
 pub struct Columns {

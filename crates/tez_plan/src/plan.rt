@@ -1,19 +1,17 @@
-ghost use Rattle.std.specs.Prelude.{◌≡◌, ◌≢◌, ◌≤◌, ◌<◌, length, map, IfOk, IfErr, OnOk};
+ghost use Rattle.std.specs.Prelude.{◌≡◌, ◌≤◌, ◌<◌, length, map, IfOk};
 ghost use Rattle.std.specs.List.{position};
 ghost use Rattle.std.specs.Option.{option_map};
 ghost use Rattle.std.specs.Str.{bytes_eq};
-ghost use Rattle.tez_plan.specs.declared.fault.PlanFault.TheVariants.{NoMemory};
-ghost use Rattle.tez_plan.specs.Dag.{dag_of, source_of, target_of, vertex};
-ghost use Rattle.tez_plan.specs.Faults.{IsValid, IsFirstFault};
+ghost use Rattle.tez_plan.specs.Dag.{source_of, target_of, vertex};
+ghost use Rattle.tez_plan.specs.Faults.{IsValid};
 ghost use Rattle.tez_plan.specs.Order.{depth, topo};
 ghost use Rattle.tez_plan.specs.Ranges.{IsInRanges};
 
-use crate::fault::PlanFault;
 use crate::graph::Graph;
 use crate::parts::{EdgeSpec, VertexSpec};
 use std::alloc::{AllocError, Global};
 use std::marker::Model;
-use tez_ids::{EdgeId, Name, VertexId};
+use tez_ids::{EdgeId, VertexId};
 
 /// A valid plan, of which contracts see the name and the two lists.
 #[derive(Drop)]
@@ -34,38 +32,6 @@ impl Model for Plan {
     ghost invariant = { λ p. IsKept p.graph p.order.items p.depths.items };
 }
 
-/// The plan of this name, these vertices and these edges, or the first fault in the order of
-/// `PlanFault`. Takes time in the square of the number of vertices and edges.
-pub fn plan_new(
-    alloc: Global,
-    name: Name,
-    vertices: Vec<VertexSpec>,
-    edges: Vec<EdgeSpec>,
-) -> Result<Plan, PlanFault>
-    // `are_in_ranges` is the test of this.
-    requires { IsInRanges (dag_of name vertices.items edges.items) }
-    ensures plan { IfOk result (λ p. p ≡ dag_of name vertices.items edges.items) }
-    ensures valid { OnOk result (IsValid (dag_of name vertices.items edges.items)) }
-    ensures fault { IfErr result (λ f. f ≢ NoMemory → IsFirstFault (dag_of name vertices.items edges.items) f) }
-{
-    let graph = match Graph::new(alloc, name, vertices, edges) {
-        Ok(graph) => graph,
-        Err(fault) => return Err(fault),
-    };
-    let order = match graph.checked(alloc) {
-        Ok(order) => order,
-        Err(fault) => return Err(fault),
-    };
-    match graph.depths(alloc) {
-        Ok(depths) => Ok(Plan {
-            graph,
-            order,
-            depths,
-        }),
-        Err(_) => Err(PlanFault::NoMemory),
-    }
-}
-
 fn place_named(vertices: &[VertexSpec], name: &str) -> Option<usize>
     ensures { result ≡ position (λ v. bytes_eq name.now v.name) vertices.now }
 {
@@ -75,6 +41,21 @@ fn place_named(vertices: &[VertexSpec], name: &str) -> Option<usize>
 }
 
 impl Plan {
+    /// The plan of a graph in whose checks no fault was found, with its vertices in order.
+    pub fn of_graph(alloc: Global, graph: Graph, order: Vec<VertexId>) -> Result<Self, AllocError>
+        requires in_ranges { IsInRanges graph }
+        requires valid { IsValid graph }
+        requires order { order.items ≡ map vertex (topo graph) }
+        ensures { IfOk result (λ p. p ≡ graph) }
+    {
+        let depths = graph.depths(alloc)?;
+        Ok(Plan {
+            graph,
+            order,
+            depths,
+        })
+    }
+
     /// The name of the plan.
     pub fn name(&self) -> &str
         ensures { result.now ≡ self.now.name }

@@ -1,6 +1,0 @@
-use Rattle.std.proofs.Common.{◌∙◌}
-use Rattle.tez_plan.proofs.GraphLemmas.{same_counts}
-use Rattle.tez_plan.proofs.graph.Graph.same_counts.Goals as goal
-
-pub returns : goal.returns
-returns c = c.same_numbers_of_columns.ensures ∙ same_counts c.args.self.now c.args.v _ _ c.edges.ensures.same c.ends.ensures.same
