@@ -38,4 +38,3 @@ pub use sure_disk::SureDisk;
 pub use sure_files::SureFiles;
 pub use sure_out::SureOut;
 pub use sure_store::SureStore;
-

@@ -19,4 +19,3 @@ pub use files::FolderFiles;
 pub use gate::QuietGate;
 pub use out::StdOut;
 pub use store::FolderStore;
-
