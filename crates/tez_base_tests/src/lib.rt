@@ -1,0 +1,16 @@
+//! Tests of the crates at the bottom: names, events, records, machines, formulas and managers. It has no
+//! code of its own.
+#![tactic(auto)]
+
+#[cfg(test)]
+mod attempts;
+#[cfg(test)]
+mod events;
+#[cfg(test)]
+mod managers;
+#[cfg(test)]
+mod numbers;
+#[cfg(test)]
+mod records;
+#[cfg(test)]
+mod traces;
