@@ -20,7 +20,8 @@ pub record ReadHasCause {T : Type 0} (before now : ℕ) (result : Result T ReadF
   pub steady : IsErrOf result read.Failed ⊎ (now ≡ before)
 
 -- Failed where the faults rose, Stopped where the stops rose, and no count moves at another answer
-pub record DeviceHasCause {T : Type 0} (faults stops new_faults new_stops : ℕ) (result : Result T DeviceStop) : Type 0 where
+pub record DeviceHasCause {T : Type 0} (faults stops new_faults new_stops : ℕ)
+    (result : Result T DeviceStop) : Type 0 where
   pub later : faults ≤ new_faults
   pub later_stops : stops ≤ new_stops
   pub failed : IsErrOf result device.Failed → Rose faults new_faults
@@ -28,7 +29,8 @@ pub record DeviceHasCause {T : Type 0} (faults stops new_faults new_stops : ℕ)
   pub steady : IsErrOf result device.Failed ⊎ (new_faults ≡ faults)
   pub steady_stops : IsErrOf result device.Stopped ⊎ (new_stops ≡ stops)
 
-pub record StoreHasCause {T : Type 0} (faults stops new_faults new_stops : ℕ) (result : Result T StoreFault) : Type 0 where
+pub record StoreHasCause {T : Type 0} (faults stops new_faults new_stops : ℕ)
+    (result : Result T StoreFault) : Type 0 where
   pub later : faults ≤ new_faults
   pub later_stops : stops ≤ new_stops
   pub failed : IsErrOf result store.Failed → Rose faults new_faults

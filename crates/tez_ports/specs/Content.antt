@@ -37,7 +37,10 @@ readies name bytes store = record store { readied = put name bytes store.readied
 -- readied bytes become the last publication
 abbrev pub moves : List ℕ → Store → Option (List ℕ) → Store
 moves name store None = store
-moves name store (Some bytes) = record store { readied = without name store.readied; publications = store.publications ++ (name, bytes) ∷ [] }
+moves name store (Some bytes) = record store {
+  readied = without name store.readied;
+  publications = store.publications ++ (name, bytes) ∷ [];
+}
 
 abbrev pub publishes : List ℕ → Store → Store
 publishes name store = moves name store (bytes_of name store.readied)
@@ -60,6 +63,14 @@ stages attempt bytes store = record store {
 
 abbrev pub purges : Store → Store
 purges store = record store { staged = []; readied = [] }
+
+-- nothing is put aside under the name
+abbrev pub LacksReadied : List ℕ → Store → Type 0
+LacksReadied name store = bytes_of name store.readied ≡ None
+
+-- the attempt is not staged
+abbrev pub LacksStaged : AttemptId → Store → Type 0
+LacksStaged attempt store = staged_at attempt store.staged ≡ None
 
 -- it took effect, or not, and nothing else changed
 abbrev pub IsEither : {C : Type 0} → (C → C) → Option C → Option C → Type 0

@@ -24,7 +24,8 @@ greatest_end (range ∷ rest) = max (range.0 + range.1) (greatest_end rest)
 -- What a cut of the power may leave: the stable bytes outside the pending ranges, any bytes elsewhere,
 -- and any length from the stable one up to the greatest end of a pending range.
 pub record IsImage (stable : List ℕ) (pending : List Range) (image : List ℕ) : Type 0 where
-  pub outside : (place : ℕ) → place < length stable → AllByRecursion (IsOutside place) pending → slice_get image place ≡ slice_get stable place
+  pub outside : (place : ℕ) → place < length stable → AllByRecursion (IsOutside place) pending
+      → slice_get image place ≡ slice_get stable place
   pub no_shorter : length stable ≤ length image
   pub no_longer : length image ≤ max (length stable) (greatest_end pending)
 
@@ -59,10 +60,13 @@ settled bytes = record { stable = bytes; pending = []; read = bytes }
 abbrev pub syncs : Disk → Disk
 syncs disk = settled disk.read
 
--- a write of n bytes that did not answer Ok: nothing changed, or the range is pending and a read gives what is torn there
+-- a write of n bytes that did not answer Ok: nothing changed, or the range is pending and a read gives
+-- what is torn there
 abbrev pub IsBroken : ℕ → ℕ → Option Disk → Option Disk → Type 0
-IsBroken at n old new = (new ≡ old) ⊎ ((torn : List ℕ) × (new ≡ option_map (pends (at, n) torn) old) × Told old (λ disk. IsTorn at n disk.read torn))
+IsBroken at n old new = (new ≡ old)
+    ⊎ ((torn : List ℕ) × (new ≡ option_map (pends (at, n) torn) old) × Told old (λ disk. IsTorn at n disk.read torn))
 
 -- a cut of the power: an image stands, and nothing is pending
 abbrev pub IsCut : Option Disk → Option Disk → Type 0
-IsCut old new = (image : List ℕ) × (new ≡ option_map (λ _. settled image) old) × Told old (λ disk. IsImage disk.stable disk.pending image)
+IsCut old new = (image : List ℕ) × (new ≡ option_map (λ _. settled image) old)
+    × Told old (λ disk. IsImage disk.stable disk.pending image)

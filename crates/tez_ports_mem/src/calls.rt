@@ -1,5 +1,5 @@
 //! Which calls are to fail or to be stopped.
-ghost use Rattle.std.specs.Prelude.{◌≡◌, ◌≤◌};
+ghost use Rattle.std.specs.Prelude.{◌≡◌, ◌≢◌, ◌≤◌, []};
 ghost use Rattle.tez_ports.specs.Causes.{Rose};
 ghost use Rattle.tez_ports_mem.specs.Calls.{IsCounted, due_at};
 
@@ -41,6 +41,7 @@ impl Calls {
     /// Counts a call, and a fault or a stop where it is due. The time grows with the lists.
     pub(crate) fn due(&mut self) -> Due
         ensures due { result ≡ due_at self.old.fail.items self.old.stop.items self.new.count }
+        ensures never_fails { self.old.fail.items ≡ [] → result ≢ Due.Fail }
         ensures counted { Rose self.old.count self.new.count }
         ensures fail { self.new.fail.items ≡ self.old.fail.items }
         ensures stop { self.new.stop.items ≡ self.old.stop.items }

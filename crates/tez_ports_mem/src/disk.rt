@@ -1,5 +1,5 @@
 //! A disk in memory.
-ghost use Rattle.std.specs.Prelude.{◌≡◌, ◌<◌, ◌^◌, ℕ, Some, option_map};
+ghost use Rattle.std.specs.Prelude.{◌≡◌, ◌<◌, ◌^◌, [], ℕ, Some, refl, option_map};
 ghost use Rattle.std.specs.Vec.{vec_len};
 ghost use Rattle.tez_ports.specs.Image.{IsSound, settled};
 ghost use Rattle.std.proofs.Props.{props};
@@ -11,6 +11,7 @@ use std::alloc::{AllocError, Global};
 use tez_ports::{DeviceStop, JournalDisk};
 
 /// A disk of which listed calls fail or are stopped, and a picker of what a cut of the power leaves.
+/// It is faultless where no call is listed to fail.
 /// `reserve` and `power_cut` are not counted. A failed call takes no effect. A stopped write takes
 /// effect, so that the power cut behind it picks what is left of it; a stopped sync takes none, so that
 /// what was pending still is. Room for n units takes 18 n bytes beside the content, and as many as that has.
@@ -69,6 +70,10 @@ impl JournalDisk for MemDisk {
     ghost stops = { λ s. s.calls.stops };
 
     ghost spare = { λ s. s.platter.spare };
+
+    ghost lent = { λ _. 0 };
+
+    ghost is_faultless = { λ s. s.calls.fail.items ≡ [] };
 
     ghost is_sure = { λ _. ⊥ };
 
@@ -129,6 +134,10 @@ impl JournalDisk for MemDisk {
     }
 
     ghost sound = { λ s d e. subst IsSound (same_Some s.platter.disk d e) s.sound };
+
+    ghost faultless_tells = { λ _ _. refl };
+
+    ghost sure_is_faultless = { λ s h. absurd h };
 
     ghost sure_tells = { λ s h. absurd h };
 }

@@ -1,5 +1,5 @@
 //! An output store in memory.
-ghost use Rattle.std.specs.Prelude.{◌≡◌, [], ℕ, Some, option_map};
+ghost use Rattle.std.specs.Prelude.{◌≡◌, [], ℕ, Some, refl, option_map};
 ghost use Rattle.tez_ports.specs.Content.{Store};
 ghost use Rattle.tez_ports_mem.specs.Lists.{calls_so_far, failing_calls, stopped_calls};
 
@@ -9,7 +9,7 @@ use std::alloc::Global;
 use tez_ids::{AttemptId, Bytes, Name};
 use tez_ports::{DeviceStop, OutputStore, StoreFault};
 
-/// A store of which listed calls fail or are stopped. A failed call takes no effect. A stopped call
+/// A store of which listed calls fail or are stopped; it is faultless where none is listed to fail. A failed call takes no effect. A stopped call
 /// takes effect, as when the answer is lost, but for `ready` and `stage` where memory is missing.
 /// The time of each call grows with what is staged, readied and published.
 #[derive(Drop)]
@@ -50,6 +50,10 @@ impl OutputStore for MemStore {
     ghost faults = { λ s. s.calls.faults };
 
     ghost stops = { λ s. s.calls.stops };
+
+    ghost lent = { λ _. 0 };
+
+    ghost is_faultless = { λ s. s.calls.fail.items ≡ [] };
 
     ghost is_sure = { λ _. ⊥ };
 
@@ -137,6 +141,10 @@ impl OutputStore for MemStore {
             }
         }
     }
+
+    ghost faultless_tells = { λ _ _. refl };
+
+    ghost sure_is_faultless = { λ s h. absurd h };
 
     ghost sure_tells = { λ s h. absurd h };
 }

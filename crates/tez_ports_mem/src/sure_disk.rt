@@ -57,6 +57,10 @@ impl JournalDisk for SureDisk {
 
     ghost spare = { λ s. s.platter.spare };
 
+    ghost lent = { λ _. 0 };
+
+    ghost is_faultless = { λ _. ⊤ };
+
     ghost is_sure = { λ _. ⊤ };
 
     fn size(&mut self) -> Result<u64, DeviceStop> {
@@ -91,6 +95,10 @@ impl JournalDisk for SureDisk {
     }
 
     ghost sound = { λ s d e. subst IsSound (same_Some s.platter.disk d e) s.sound };
+
+    ghost faultless_tells = { λ _ _. refl };
+
+    ghost sure_is_faultless = { λ _ h. h };
 
     ghost sure_tells = { λ _ _. refl };
 }

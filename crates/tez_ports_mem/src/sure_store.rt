@@ -43,6 +43,10 @@ impl OutputStore for SureStore {
 
     ghost stops = { λ _. 0 };
 
+    ghost lent = { λ _. 0 };
+
+    ghost is_faultless = { λ _. ⊤ };
+
     ghost is_sure = { λ _. ⊤ };
 
     fn ready(&mut self, name: &str, bytes: &[u8]) -> Result<(), StoreFault> {
@@ -87,6 +91,10 @@ impl OutputStore for SureStore {
         self.contents.purge();
         Ok(())
     }
+
+    ghost faultless_tells = { λ _ _. refl };
+
+    ghost sure_is_faultless = { λ _ h. h };
 
     ghost sure_tells = { λ _ _. refl };
 }
