@@ -9,7 +9,7 @@ use Rattle.tez_ports.specs.Image.{Disk, IsTorn, overwrite, pends, writes, settle
 use Rattle.tez_ports.proofs.ImageLemmas.{torn_alone, image_splits, image_unwritten}
 use Rattle.tez_journal.specs.Text.{framed, entry, entries, IsGated}
 use Rattle.tez_journal.specs.Crash.{Leaves, IsOneOf, IsOneOfThree, IsEitherGated, IsAllOrAllButLast, EndsAt, IsSafe, IsLaid}
-use Rattle.tez_journal.specs.Journal.{IsBodyOf}
+use Rattle.tez_journal.specs.Gate.{IsBodyOf}
 use Rattle.tez_journal.proofs.TextLemmas.{entries_more}
 use Rattle.tez_journal.proofs.ImageLemmas.{gated_front, opened, at_gate}
 

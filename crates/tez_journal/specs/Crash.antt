@@ -4,7 +4,7 @@
 --     IsOneOf ps qs bytes           the bytes are a journal of one of two lists of records
 --     IsOneOfThree ps qs rs bytes   or of one of three
 --     IsSafe gate kept rs d         a journal of rs, or of kept, its records but the last, stands whatever a cut leaves
---     IsLaid rs b d                 behind the last gate of a journal of rs an entry of the body b lies, with a closed gate
+--     IsLaid rs b d                 behind the last gate of a journal of rs lies an entry of the body b and a closed gate
 use Rattle.std.specs.Prelude.{◌≡◌, ◌≢◌, ◌⊎◌, ℕ, ◌<◌, ◌≤◌, List, [], ◌∷◌, ◌++◌, length}
 use Rattle.std.specs.List.{AllByRecursion}
 use Rattle.tez_events.specs.declared.JournalRecord.{JournalRecord}

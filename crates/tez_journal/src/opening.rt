@@ -5,7 +5,7 @@ ghost use Rattle.tez_ports.specs.Content.{Told};
 ghost use Rattle.tez_ports.specs.Image.{settled};
 ghost use Rattle.tez_journal.specs.Text.{IsText};
 ghost use Rattle.tez_journal.specs.Crash.{EndsAt, Leaves, IsSafe};
-ghost use Rattle.tez_journal.specs.Opening.{opens, JournalHasCause};
+ghost use Rattle.tez_journal.specs.Opening.{opens, IsSynced, IsNoText, KeepsTexts, KeepsImages, JournalHasCause};
 
 use crate::fault::{JournalFault, fault_of};
 use crate::text::{Text, read_text};
@@ -17,11 +17,16 @@ fn begin<D: JournalDisk>(disk: &mut D) -> Result<(), JournalFault>
     requires { Told (D.disk disk.old) (λ d. length d.read ≤ 1) }
     ensures ok { OnOk result (D.disk disk.new ≡ option_map (λ _. settled (0 ∷ [])) (D.disk disk.old)) }
     ensures err { OnErr result (Told (D.disk disk.new) (λ d. length d.read ≤ 1)) }
-    ensures err_images { OnErr result (Told (D.disk disk.old) (λ d. d.pending ≡ []) → Told (D.disk disk.new) (Leaves (λ image. length image ≤ 1))) }
+    ensures err_images { OnErr result (Told (D.disk disk.old) IsSynced
+        → Told (D.disk disk.new) (Leaves (λ image. length image ≤ 1))) }
     ensures told { is_some (D.disk disk.new) ≡ is_some (D.disk disk.old) }
-    ensures cause { JournalHasCause (D.faults disk.old) (D.stops disk.old) (D.faults disk.new) (D.stops disk.new) result }
+    ensures cause { JournalHasCause (D.faults disk.old) (D.stops disk.old)
+        (D.faults disk.new) (D.stops disk.new) result }
+    ensures lent { D.lent disk.new ≡ D.lent disk.old }
+    ensures stays_faultless { D.is_faultless disk.old → D.is_faultless disk.new }
     ensures stays_sure { D.is_sure disk.old → D.is_sure disk.new }
-    ensures sure { D.is_sure disk.old → OnErr result (IsErrOf result JournalFault.NoMemory) }
+    ensures faultless { D.is_faultless disk.old → IsErrOf result JournalFault.Failed → ⊥ }
+    ensures never_stops { D.is_sure disk.old → IsErrOf result JournalFault.Stopped → ⊥ }
     ensures no_refusal { IsErrOf result JournalFault.Refused → ⊥ }
 {
     if disk.reserve(2).is_err() {
@@ -43,11 +48,15 @@ fn read<D: JournalDisk>(alloc: Global, disk: &mut D, size: u64) -> Result<Text, 
     requires long { 1 < size }
     ensures records { IfOk result (λ t. Told (D.disk disk.old) (λ d. EndsAt t.gate t.records.items d.read)) }
     ensures small { IfOk result (λ t. t.gate < 2 ^ 63) }
-    ensures refused { IsErrOf result JournalFault.Refused → Told (D.disk disk.old) (λ d. (rs : List JournalRecord) → ¬ IsText d.read rs) }
+    ensures refused { IsErrOf result JournalFault.Refused → Told (D.disk disk.old) IsNoText }
     ensures same { D.disk disk.new ≡ D.disk disk.old }
-    ensures cause { JournalHasCause (D.faults disk.old) (D.stops disk.old) (D.faults disk.new) (D.stops disk.new) result }
+    ensures cause { JournalHasCause (D.faults disk.old) (D.stops disk.old)
+        (D.faults disk.new) (D.stops disk.new) result }
+    ensures lent { D.lent disk.new ≡ D.lent disk.old }
+    ensures stays_faultless { D.is_faultless disk.old → D.is_faultless disk.new }
     ensures stays_sure { D.is_sure disk.old → D.is_sure disk.new }
-    ensures sure { D.is_sure disk.old → (IsErrOf result JournalFault.Failed → ⊥) × (IsErrOf result JournalFault.Stopped → ⊥) }
+    ensures faultless { D.is_faultless disk.old → IsErrOf result JournalFault.Failed → ⊥ }
+    ensures never_stops { D.is_sure disk.old → IsErrOf result JournalFault.Stopped → ⊥ }
 {
     let Ok(mut bytes) = vec![in alloc; 0u8; size as usize] else {
         return Err(JournalFault::NoMemory);
@@ -80,15 +89,21 @@ pub fn load<D: JournalDisk>(alloc: Global, disk: &mut D) -> Result<Text, Journal
     ensures holds { IfOk result (λ t. Told (D.disk disk.new) (λ d. EndsAt t.gate t.records.items d.read)) }
     ensures small { IfOk result (λ t. t.gate < 2 ^ 63) }
     ensures disk { OnOk result (D.disk disk.new ≡ option_map opens (D.disk disk.old)) }
-    ensures survives { IfOk result (λ t. Told (D.disk disk.old) (λ d. d.pending ≡ []) → Told (D.disk disk.new) (IsSafe t.gate t.records.items t.records.items)) }
-    ensures refused { IsErrOf result JournalFault.Refused → Told (D.disk disk.old) (λ d. (rs : List JournalRecord) → ¬ IsText d.read rs) }
-    ensures err_same { OnErr result (Told (D.disk disk.old) (λ d. 1 < length d.read) → D.disk disk.new ≡ D.disk disk.old) }
-    ensures err_read { OnErr result ((rs : List JournalRecord) → Told (D.disk disk.old) (λ d. IsText d.read rs) → Told (D.disk disk.new) (λ d. IsText d.read rs)) }
-    ensures err_images { OnErr result ((rs : List JournalRecord) → Told (D.disk disk.old) (λ d. (d.pending ≡ []) × IsText d.read rs) → Told (D.disk disk.new) (Leaves (λ image. IsText image rs))) }
+    ensures survives { IfOk result (λ t. Told (D.disk disk.old) IsSynced
+        → Told (D.disk disk.new) (IsSafe t.gate t.records.items t.records.items)) }
+    ensures refused { IsErrOf result JournalFault.Refused → Told (D.disk disk.old) IsNoText }
+    ensures err_same { OnErr result (Told (D.disk disk.old) (λ d. 1 < length d.read)
+        → D.disk disk.new ≡ D.disk disk.old) }
+    ensures err_read { OnErr result (KeepsTexts (D.disk disk.old) (D.disk disk.new)) }
+    ensures err_images { OnErr result (KeepsImages (D.disk disk.old) (D.disk disk.new)) }
     ensures told { is_some (D.disk disk.new) ≡ is_some (D.disk disk.old) }
-    ensures cause { JournalHasCause (D.faults disk.old) (D.stops disk.old) (D.faults disk.new) (D.stops disk.new) result }
+    ensures cause { JournalHasCause (D.faults disk.old) (D.stops disk.old)
+        (D.faults disk.new) (D.stops disk.new) result }
+    ensures lent { D.lent disk.new ≡ D.lent disk.old }
+    ensures stays_faultless { D.is_faultless disk.old → D.is_faultless disk.new }
     ensures stays_sure { D.is_sure disk.old → D.is_sure disk.new }
-    ensures sure { D.is_sure disk.old → (IsErrOf result JournalFault.Failed → ⊥) × (IsErrOf result JournalFault.Stopped → ⊥) }
+    ensures faultless { D.is_faultless disk.old → IsErrOf result JournalFault.Failed → ⊥ }
+    ensures never_stops { D.is_sure disk.old → IsErrOf result JournalFault.Stopped → ⊥ }
 {
     let size = match disk.size() {
         Ok(size) => size,
