@@ -1,5 +1,6 @@
 -- The merge of what attempts staged.
 --     AreStaged staged attempts        each of these attempts is staged
+--     LacksOne attempts store          not each of them is
 --     staged_records staged attempts   the lines of their staged bytes, one attempt after another
 --     merged staged attempts           these records in byte order
 --     prepares attempts name store     the store after the text of the merge was put aside under the name
@@ -12,6 +13,9 @@ use Rattle.tez_ports.specs.Content.{Staged, Store, readies, staged_at}
 
 abbrev pub AreStaged : Staged → List AttemptId → Type 0
 AreStaged staged attempts = AllByRecursion (λ a. IsSome (staged_at a staged)) attempts
+
+abbrev pub LacksOne : List AttemptId → Store → Type 0
+LacksOne attempts store = ¬ AreStaged store.staged attempts
 
 -- the staged bytes of an attempt, none where it is not staged
 abbrev pub staged_bytes : Staged → AttemptId → List ℕ

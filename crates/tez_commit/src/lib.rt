@@ -17,10 +17,14 @@ pub use sink::{Prepared, prepare};
 
 /// A sink that is prepared and then published is the last publication, once, with the merged text.
 pub fn prepared_is_published()
-    ensures { (winners : List AttemptId) (name : List ℕ) (s : Store) → (publishes name (prepares winners name s)).publications ≡ s.publications ++ (name, text (merged s.staged winners)) ∷ [] }
+    ensures { (winners : List AttemptId) (name : List ℕ) (s : Store)
+        → (publishes name (prepares winners name s)).publications
+        ≡ s.publications ++ (name, text (merged s.staged winners)) ∷ [] }
 {}
 
 /// Where each attempt staged the text of its records, the merge is the bag of all these records.
 pub fn merge_of_staged_values()
-    ensures { (staged : Staged) (winners : List AttemptId) (value : AttemptId → List (List ℕ)) → AllByRecursion (λ a. AllByRecursion IsRecord (value a) × (staged_at a staged ≡ Some (text (value a)))) winners → merged staged winners ≡ sort (flat_map value winners) }
+    ensures { (staged : Staged) (winners : List AttemptId) (value : AttemptId → List (List ℕ))
+        → AllByRecursion (λ a. AllByRecursion IsRecord (value a) × (staged_at a staged ≡ Some (text (value a)))) winners
+        → merged staged winners ≡ sort (flat_map value winners) }
 {}

@@ -1,10 +1,10 @@
 // The text of a sink, from what attempts staged to the bytes that are put aside.
-ghost use Rattle.std.specs.Prelude.{◌≡◌, ◌⊎◌, ◌++◌, length, None, option_map, IsSome, IfOk, OnOk, OnErr, IsErrOf};
+ghost use Rattle.std.specs.Prelude.{◌≡◌, ◌⊎◌, ◌++◌, length, option_map, IsSome, IfOk, OnOk, OnErr, IsErrOf};
 ghost use Rattle.tez_record.specs.Line.{lines};
 ghost use Rattle.tez_record.specs.Bag.{text};
 ghost use Rattle.tez_ports.specs.Causes.{StoreHasCause};
-ghost use Rattle.tez_ports.specs.Content.{Told, IsEither, staged_at};
-ghost use Rattle.tez_commit.specs.Merge.{AreStaged, merged, prepares, staged_bytes, staged_records};
+ghost use Rattle.tez_ports.specs.Content.{Told, IsEither, LacksStaged, staged_at};
+ghost use Rattle.tez_commit.specs.Merge.{AreStaged, LacksOne, merged, prepares, staged_bytes, staged_records};
 
 use std::alloc::Global;
 use tez_ids::AttemptId;
@@ -40,12 +40,18 @@ fn load_onto<S: OutputStore>(
     records: &mut Records,
 ) -> Result<(), StoreFault>
     ensures staged { OnOk result (Told (S.store store.old) (λ s. IsSome (staged_at attempt s.staged))) }
-    ensures added { OnOk result (Told (S.store store.old) (λ s. records.new ≡ records.old ++ lines (staged_bytes s.staged attempt))) }
+    ensures added { OnOk result
+        (Told (S.store store.old) (λ s. records.new ≡ records.old ++ lines (staged_bytes s.staged attempt))) }
     ensures same { S.store store.new ≡ S.store store.old }
-    ensures cause { StoreHasCause (S.faults store.old) (S.stops store.old) (S.faults store.new) (S.stops store.new) result }
+    ensures lent { S.lent store.new ≡ S.lent store.old }
+    ensures cause { StoreHasCause (S.faults store.old) (S.stops store.old)
+        (S.faults store.new) (S.stops store.new) result }
+    ensures stays_faultless { S.is_faultless store.old → S.is_faultless store.new }
     ensures stays_sure { S.is_sure store.old → S.is_sure store.new }
+    ensures faultless { S.is_faultless store.old → IsErrOf result StoreFault.Failed
+        → Told (S.store store.old) (LacksStaged attempt) }
     ensures sure { S.is_sure store.old → OnErr result
-        (IsErrOf result StoreFault.NoMemory ⊎ Told (S.store store.old) (λ s. staged_at attempt s.staged ≡ None)) }
+        (IsErrOf result StoreFault.NoMemory ⊎ Told (S.store store.old) (LacksStaged attempt)) }
     ensures never_stops { S.is_sure store.old → IsErrOf result StoreFault.Stopped → ⊥ }
 {
     match store.load(alloc, attempt) {
@@ -63,10 +69,15 @@ fn gather<S: OutputStore>(
     ensures staged { OnOk result (Told (S.store store.old) (λ s. AreStaged s.staged winners.now)) }
     ensures records { IfOk result (λ rs. Told (S.store store.old) (λ s. rs ≡ staged_records s.staged winners.now)) }
     ensures same { S.store store.new ≡ S.store store.old }
-    ensures cause { StoreHasCause (S.faults store.old) (S.stops store.old) (S.faults store.new) (S.stops store.new) result }
+    ensures lent { S.lent store.new ≡ S.lent store.old }
+    ensures cause { StoreHasCause (S.faults store.old) (S.stops store.old)
+        (S.faults store.new) (S.stops store.new) result }
+    ensures stays_faultless { S.is_faultless store.old → S.is_faultless store.new }
     ensures stays_sure { S.is_sure store.old → S.is_sure store.new }
+    ensures faultless { S.is_faultless store.old → IsErrOf result StoreFault.Failed
+        → Told (S.store store.old) (LacksOne winners.now) }
     ensures sure { S.is_sure store.old → OnErr result
-        (IsErrOf result StoreFault.NoMemory ⊎ Told (S.store store.old) (λ s. AreStaged s.staged winners.now → ⊥)) }
+        (IsErrOf result StoreFault.NoMemory ⊎ Told (S.store store.old) (LacksOne winners.now)) }
     ensures never_stops { S.is_sure store.old → IsErrOf result StoreFault.Stopped → ⊥ }
 {
     let mut records = Records::new(alloc);
@@ -88,10 +99,15 @@ fn merge<S: OutputStore>(
     ensures staged { OnOk result (Told (S.store store.old) (λ s. AreStaged s.staged winners.now)) }
     ensures merged { IfOk result (λ rs. Told (S.store store.old) (λ s. rs ≡ merged s.staged winners.now)) }
     ensures same { S.store store.new ≡ S.store store.old }
-    ensures cause { StoreHasCause (S.faults store.old) (S.stops store.old) (S.faults store.new) (S.stops store.new) result }
+    ensures lent { S.lent store.new ≡ S.lent store.old }
+    ensures cause { StoreHasCause (S.faults store.old) (S.stops store.old)
+        (S.faults store.new) (S.stops store.new) result }
+    ensures stays_faultless { S.is_faultless store.old → S.is_faultless store.new }
     ensures stays_sure { S.is_sure store.old → S.is_sure store.new }
+    ensures faultless { S.is_faultless store.old → IsErrOf result StoreFault.Failed
+        → Told (S.store store.old) (LacksOne winners.now) }
     ensures sure { S.is_sure store.old → OnErr result
-        (IsErrOf result StoreFault.NoMemory ⊎ Told (S.store store.old) (λ s. AreStaged s.staged winners.now → ⊥)) }
+        (IsErrOf result StoreFault.NoMemory ⊎ Told (S.store store.old) (LacksOne winners.now)) }
     ensures never_stops { S.is_sure store.old → IsErrOf result StoreFault.Stopped → ⊥ }
 {
     let records = match gather(alloc, store, winners) {
@@ -126,14 +142,21 @@ pub fn prepare<S: OutputStore>(
 ) -> Result<Prepared, StoreFault>
     ensures staged { OnOk result (Told (S.store store.old) (λ s. AreStaged s.staged winners.now)) }
     ensures ok { OnOk result (S.store store.new ≡ option_map (prepares winners.now name.now) (S.store store.old)) }
-    ensures records { IfOk result (λ p. Told (S.store store.old) (λ s. p.records ≡ length (merged s.staged winners.now))) }
-    ensures bytes { IfOk result (λ p. Told (S.store store.old) (λ s. p.bytes ≡ length (text (merged s.staged winners.now)))) }
+    ensures records { IfOk result
+        (λ p. Told (S.store store.old) (λ s. p.records ≡ length (merged s.staged winners.now))) }
+    ensures bytes { IfOk result
+        (λ p. Told (S.store store.old) (λ s. p.bytes ≡ length (text (merged s.staged winners.now)))) }
     ensures err { OnErr result (IsEither (prepares winners.now name.now) (S.store store.old) (S.store store.new)) }
     ensures no_memory { IsErrOf result StoreFault.NoMemory → S.store store.new ≡ S.store store.old }
-    ensures cause { StoreHasCause (S.faults store.old) (S.stops store.old) (S.faults store.new) (S.stops store.new) result }
+    ensures lent { S.lent store.new ≡ S.lent store.old }
+    ensures cause { StoreHasCause (S.faults store.old) (S.stops store.old)
+        (S.faults store.new) (S.stops store.new) result }
+    ensures stays_faultless { S.is_faultless store.old → S.is_faultless store.new }
     ensures stays_sure { S.is_sure store.old → S.is_sure store.new }
+    ensures faultless { S.is_faultless store.old → IsErrOf result StoreFault.Failed
+        → Told (S.store store.old) (LacksOne winners.now) }
     ensures sure { S.is_sure store.old → OnErr result
-        (IsErrOf result StoreFault.NoMemory ⊎ Told (S.store store.old) (λ s. AreStaged s.staged winners.now → ⊥)) }
+        (IsErrOf result StoreFault.NoMemory ⊎ Told (S.store store.old) (LacksOne winners.now)) }
     ensures never_stops { S.is_sure store.old → IsErrOf result StoreFault.Stopped → ⊥ }
 {
     let merged = match merge(alloc, store, winners) {
