@@ -34,13 +34,18 @@ impl Model for Platter {
     ghost Value = { Kept };
 
     ghost view = { λ p. record {
-      disk = record { stable = stable_of p.shared p.tail.items p.content.items; pending = p.pending.items; read = p.content.items };
+      disk = record {
+        stable = stable_of p.shared p.tail.items p.content.items;
+        pending = p.pending.items;
+        read = p.content.items;
+      };
       spare = p.spare;
     } };
 
     ghost invariant = { λ p.
         IsKept p.shared p.tail.items p.pending.items p.content.items
-        × HasRoom p.spare (vec_len p.content) (vec_len p.pending) (vec_capacity p.content) (vec_capacity p.tail) (vec_capacity p.pending) };
+        × HasRoom p.spare (vec_len p.content) (vec_len p.pending)
+        (vec_capacity p.content) (vec_capacity p.tail) (vec_capacity p.pending) };
 }
 
 impl Platter {
@@ -93,7 +98,10 @@ impl Platter {
         requires room { length bytes.now + 1 ≤ self.old.spare }
         requires limit { start + length bytes.now < 2 ^ 62 }
         ensures sound { IsSound self.new.disk }
-        ensures value { self.new ≡ record { disk = writes start bytes.now self.old.disk; spare = self.old.spare - (length bytes.now + 1) } }
+        ensures value { self.new ≡ record {
+          disk = writes start bytes.now self.old.disk;
+          spare = self.old.spare - (length bytes.now + 1);
+        } }
     {
         let first = start as usize;
         let len = bytes.len() as u64;
@@ -141,7 +149,11 @@ fn pick_image(
     pending: &[(u64, u64)],
 )
     requires { IsKept shared tail.now pending.now content.old.items }
-    ensures items { content.new.items ≡ picked pick (record { stable = stable_of shared tail.now content.old.items; pending = pending.now; read = content.old.items }) }
+    ensures items { content.new.items ≡ picked pick (record {
+      stable = stable_of shared tail.now content.old.items;
+      pending = pending.now;
+      read = content.old.items;
+    }) }
     ensures capacity { vec_capacity content.old ≤ vec_capacity content.new }
 {
     match pick {

@@ -9,9 +9,9 @@ use std::alloc::Global;
 use tez_ids::{AttemptId, Bytes, Name};
 use tez_ports::{DeviceStop, OutputStore, StoreFault};
 
-/// A store of which listed calls fail or are stopped; it is faultless where none is listed to fail. A failed call takes no effect. A stopped call
-/// takes effect, as when the answer is lost, but for `ready` and `stage` where memory is missing.
-/// The time of each call grows with what is staged, readied and published.
+/// A store of which listed calls fail or are stopped. A failed call takes no effect. A stopped call
+/// takes effect, as when the answer is lost, but for `ready` and `stage` where memory is missing. It is
+/// faultless where no call is listed to fail. The time of each call grows with what is staged, readied and published.
 #[derive(Drop)]
 pub struct MemStore {
     contents: Contents,

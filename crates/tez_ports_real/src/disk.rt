@@ -44,6 +44,10 @@ impl JournalDisk for NoDisk {
 
     ghost spare = { λ s. s.spare };
 
+    ghost lent = { λ _. 0 };
+
+    ghost is_faultless = { λ _. ⊥ };
+
     ghost is_sure = { λ _. ⊥ };
 
     fn size(&mut self) -> Result<u64, DeviceStop> {
@@ -70,6 +74,10 @@ impl JournalDisk for NoDisk {
     fn power_cut(&mut self) {}
 
     ghost sound = { λ s d told. absurd (none-some d told) };
+
+    ghost faultless_tells = { λ s h. absurd h };
+
+    ghost sure_is_faultless = { λ s h. h };
 
     ghost sure_tells = { λ s h. absurd h };
 }

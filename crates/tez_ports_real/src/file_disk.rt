@@ -3,6 +3,7 @@ ghost use Rattle.std.specs.Prelude.{◌≡◌, ◌≤◌, ◌+◌, ◌^◌, ℕ,
 ghost use Rattle.std.proofs.lemmas.Option.{none-some};
 ghost use Rattle.tez_ports.specs.Causes.{Rose};
 
+use crate::report::report;
 use std::alloc::AllocError;
 use std::fs::{File, OpenFile, OpenOptions};
 use std::io::{self, ErrorKind, Read, Seek, SeekFrom, Write};
@@ -19,18 +20,23 @@ const LIMIT: u64 = 1 << 62;
 /// error counts a fault. No write takes memory, so room is only a number, and a power cut is left to the
 /// machine.
 ///
-/// What is trusted: while nobody else writes the file it keeps the model of `JournalDisk`. A read gives
-/// what was written; after a `sync` that answered Ok a crash of the machine leaves the content as it was
-/// then, but for the ranges that were written since, and the file is in its folder.
+/// What is trusted: while nobody else writes the file, and no sync of it has failed, it keeps the model
+/// of `JournalDisk`. A read gives what was written; after a `sync` that answered Ok a crash of the machine
+/// leaves the content as it was then, but for the ranges that were written since, and the file is in its
+/// folder. What an earlier process wrote and did not sync is synced when the file is opened, before any
+/// of it is read.
+///
+/// Once a sync has failed, nothing is trusted of what was pending: the system may have dropped it, give it
+/// to a read all the same, and answer Ok to the next sync, also to that of a later process.
 #[derive(Drop)]
-pub struct FileDisk<'r, R: Files> {
+pub struct FileDisk<'r, R: Files + Eprint> {
     rt: &'r R,
     file: Option<R::File>,
     faults: u64,
     spare: u64,
 }
 
-impl<'r, R: Files> FileDisk<'r, R> {
+impl<'r, R: Files + Eprint> FileDisk<'r, R> {
     pub fn new(rt: &'r R) -> Self
         ensures faults { result.faults ≡ 0 }
         ensures spare { result.spare ≡ 0 }
@@ -43,19 +49,20 @@ impl<'r, R: Files> FileDisk<'r, R> {
         }
     }
 
-    /// The answer to an error.
-    fn fault(&mut self) -> DeviceStop
+    /// The answer to an error, which is told to the user.
+    fn fault(&mut self, error: io::Error) -> DeviceStop
         ensures failed { result ≡ DeviceStop.Failed }
         ensures rose { Rose self.old.faults self.new.faults }
         ensures later { self.old.faults ≤ self.new.faults }
         ensures spare { self.new.spare ≡ self.old.spare }
     {
+        report(self.rt, FILE, &error);
         self.faults = self.faults.saturating_add(1);
         DeviceStop::Failed
     }
 }
 
-impl<R: Files> JournalDisk for FileDisk<'_, R> {
+impl<R: Files + Eprint> JournalDisk for FileDisk<'_, R> {
     ghost disk = { λ _. None };
 
     ghost faults = { λ s. s.faults };
@@ -64,19 +71,23 @@ impl<R: Files> JournalDisk for FileDisk<'_, R> {
 
     ghost spare = { λ s. s.spare };
 
+    ghost lent = { λ _. 0 };
+
+    ghost is_faultless = { λ _. ⊥ };
+
     ghost is_sure = { λ _. ⊥ };
 
     fn size(&mut self) -> Result<u64, DeviceStop> {
         match size_of(self.rt, &mut self.file) {
             Ok(size) => Ok(size),
-            Err(_) => Err(self.fault()),
+            Err(error) => Err(self.fault(error)),
         }
     }
 
     fn read_at(&mut self, start: u64, into: &mut [u8]) -> Result<(), DeviceStop> {
         match read_from(self.rt, &mut self.file, start, into) {
             Ok(()) => Ok(()),
-            Err(_) => Err(self.fault()),
+            Err(error) => Err(self.fault(error)),
         }
     }
 
@@ -87,24 +98,28 @@ impl<R: Files> JournalDisk for FileDisk<'_, R> {
 
     fn write_at(&mut self, start: u64, bytes: &[u8]) -> Result<(), DeviceStop> {
         if bytes.len() as u64 >= LIMIT.saturating_sub(start) {
-            return Err(self.fault());
+            return Err(self.fault(io::Error::from(ErrorKind::FileTooLarge)));
         }
         match write_from(self.rt, &mut self.file, start, bytes) {
             Ok(()) => Ok(()),
-            Err(_) => Err(self.fault()),
+            Err(error) => Err(self.fault(error)),
         }
     }
 
     fn sync(&mut self) -> Result<(), DeviceStop> {
         match sync_all(self.rt, &mut self.file) {
             Ok(()) => Ok(()),
-            Err(_) => Err(self.fault()),
+            Err(error) => Err(self.fault(error)),
         }
     }
 
     fn power_cut(&mut self) {}
 
     ghost sound = { λ s d told. absurd (none-some d told) };
+
+    ghost faultless_tells = { λ s h. absurd h };
+
+    ghost sure_is_faultless = { λ s h. h };
 
     ghost sure_tells = { λ s h. absurd h };
 }
@@ -120,13 +135,14 @@ fn opened<'f, R: Files>(rt: &R, file: &'f mut Option<R::File>) -> io::Result<&'f
     }
 }
 
-/// Opens the file, made if it is missing, so that it lasts in its folder.
+/// Opens the file, made if it is missing, so that all that is in it lasts, and it in its folder.
 fn open<R: Files>(rt: &R) -> io::Result<R::File> {
     let file = OpenOptions::new()
         .read(true)
         .write(true)
         .create(true)
         .open(rt, FILE)?;
+    file.sync_all()?;
     File::open(rt, ".")?.sync_all()?;
     Ok(file)
 }

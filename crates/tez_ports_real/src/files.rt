@@ -2,6 +2,7 @@
 ghost use Rattle.std.specs.Prelude.{◌≡◌, [], ℕ, None};
 
 use crate::folder::read_up_to;
+use crate::report::report;
 use std::alloc::Global;
 use std::io::ErrorKind;
 use std::rt::Files;
@@ -10,13 +11,13 @@ use tez_ports::{InputFiles, ReadFault};
 
 /// Files whose names are paths of the working folder.
 #[derive(Drop)]
-pub struct FolderFiles<'r, R: Files> {
+pub struct FolderFiles<'r, R: Files + Eprint> {
     rt: &'r R,
     faults: u64,
     failed: Name,
 }
 
-impl<'r, R: Files> FolderFiles<'r, R> {
+impl<'r, R: Files + Eprint> FolderFiles<'r, R> {
     pub fn new(alloc: Global, rt: &'r R) -> Self
         ensures faults { result.faults ≡ 0 }
         ensures failed { result.failed ≡ [] }
@@ -29,7 +30,7 @@ impl<'r, R: Files> FolderFiles<'r, R> {
     }
 }
 
-impl<R: Files> InputFiles for FolderFiles<'_, R> {
+impl<R: Files + Eprint> InputFiles for FolderFiles<'_, R> {
     ghost files = { λ _. None };
 
     ghost faults = { λ s. s.faults };
@@ -55,6 +56,7 @@ impl<R: Files> InputFiles for FolderFiles<'_, R> {
                 ErrorKind::NotFound => Err(ReadFault::Missing),
                 ErrorKind::OutOfMemory => Err(ReadFault::NoMemory),
                 _ => {
+                    report(self.rt, name, &error);
                     self.faults = self.faults.saturating_add(1);
                     self.failed = copy;
                     Err(ReadFault::Failed)

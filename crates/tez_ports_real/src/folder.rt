@@ -9,7 +9,7 @@ use std::rt::Files;
 use std::str;
 use tez_ids::AttemptId;
 
-const FOLDER: &str = "tez.out";
+pub(crate) const FOLDER: &str = "tez.out";
 
 /// A file that is being written.
 const PART: &str = "tez.out/.part";
@@ -31,26 +31,24 @@ pub(crate) fn sink_path(name: &str) -> io::Result<Path> {
 }
 
 /// Where the bytes of a sink lie until it is published.
-pub(crate) fn ready_path(number: u64) -> io::Result<Path> {
+pub(crate) fn ready_path(number: u64) -> Path {
     let mut path = Path::new();
-    match write!(path, "{FOLDER}/.ready.{number}") {
-        Ok(()) => Ok(path),
-        Err(_) => Err(too_long()),
-    }
+    // a number of 20 digits fits
+    let _ = write!(path, "{FOLDER}/.ready.{number}");
+    path
 }
 
 /// Where the output of an attempt lies.
-pub(crate) fn stage_path(attempt: AttemptId) -> io::Result<Path> {
+pub(crate) fn stage_path(attempt: AttemptId) -> Path {
     let mut path = Path::new();
     let task = attempt.task;
-    match write!(
+    // four numbers of 20 digits fit
+    let _ = write!(
         path,
         "{FOLDER}/.stage.{}.{}.{}.{}",
         attempt.epoch.0, task.vertex.0, task.index, attempt.number
-    ) {
-        Ok(()) => Ok(path),
-        Err(_) => Err(too_long()),
-    }
+    );
+    path
 }
 
 /// The bytes of a file, but at most `limit` of them.
@@ -65,21 +63,36 @@ pub(crate) fn read_up_to<R: Files>(
     Ok(bytes)
 }
 
-/// Makes a file with these bytes, in place of any of that path. It stands whole or not at all, and what
-/// is in it lasts; that it is in the folder lasts after `sync_folder`.
-pub(crate) fn put_file<R: Files>(rt: &R, path: &str, bytes: &[u8]) -> io::Result<()> {
-    make_folder(rt)?;
-    write_part(rt, bytes)?;
-    fs::rename(rt, PART, path)
+/// Why a file was not put into the folder.
+#[derive(Drop)]
+pub(crate) enum PutFault {
+    /// The file of its path is the one that was there.
+    Unchanged(io::Error),
+    /// It may be the new one, which may be lost at a crash of the machine.
+    Changed(io::Error),
 }
 
-/// Makes the folder where it is missing, so that it lasts.
-fn make_folder<R: Files>(rt: &R) -> io::Result<()> {
-    match fs::create_dir(rt, FOLDER) {
-        Ok(()) => File::open(rt, ".")?.sync_all(),
-        Err(error) if error.kind() == ErrorKind::AlreadyExists => Ok(()),
-        Err(error) => Err(error),
+/// Makes a file of the folder with these bytes, in place of any of that path. It stands whole or not at
+/// all, and what is in it lasts; that it is in the folder lasts after `sync_folder`.
+pub(crate) fn put_file<R: Files>(rt: &R, path: &str, bytes: &[u8]) -> Result<(), PutFault> {
+    match write_part(rt, bytes) {
+        Ok(()) => {}
+        Err(error) => return Err(PutFault::Unchanged(error)),
     }
+    match fs::rename(rt, PART, path) {
+        Ok(()) => Ok(()),
+        Err(error) => Err(PutFault::Changed(error)),
+    }
+}
+
+/// Makes the folder where it is missing, and makes it last, also where another process made it.
+pub(crate) fn make_folder<R: Files>(rt: &R) -> io::Result<()> {
+    match fs::create_dir(rt, FOLDER) {
+        Ok(()) => {}
+        Err(error) if error.kind() == ErrorKind::AlreadyExists => {}
+        Err(error) => return Err(error),
+    }
+    File::open(rt, ".")?.sync_all()
 }
 
 fn write_part<R: Files>(rt: &R, bytes: &[u8]) -> io::Result<()> {

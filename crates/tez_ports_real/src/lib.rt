@@ -2,7 +2,9 @@
 //! output.
 //!
 //! They tell nothing of what they hold, since no contract can say what a file or a pipe has. Each counts
-//! a fault at each error. They are thin, so that little has to be trusted.
+//! a fault at each error, and writes one line to standard error with the path and the system's reason,
+//! as `tez: tez.out/counts: No space left on device (os error 28)`. They are thin, so that little has to
+//! be trusted.
 #![tactic(auto)]
 
 mod disk;
@@ -11,6 +13,7 @@ mod files;
 mod folder;
 mod gate;
 mod out;
+mod report;
 mod store;
 
 pub use disk::NoDisk;

@@ -1,17 +1,18 @@
 //! Standard output.
 ghost use Rattle.std.specs.Prelude.{◌≡◌, ℕ, None};
 
+use crate::report::report;
 use std::io::{self, Write};
 use tez_ports::{OutFailed, TextOut};
 
 /// Standard output, written at each call.
 #[derive(Drop)]
-pub struct StdOut<'r, R: Print> {
+pub struct StdOut<'r, R: Print + Eprint> {
     rt: &'r R,
     faults: u64,
 }
 
-impl<'r, R: Print> StdOut<'r, R> {
+impl<'r, R: Print + Eprint> StdOut<'r, R> {
     pub fn new(rt: &'r R) -> Self
         ensures { result.faults ≡ 0 }
     {
@@ -19,7 +20,7 @@ impl<'r, R: Print> StdOut<'r, R> {
     }
 }
 
-impl<R: Print> TextOut for StdOut<'_, R> {
+impl<R: Print + Eprint> TextOut for StdOut<'_, R> {
     ghost written = { λ _. None };
 
     ghost faults = { λ s. s.faults };
@@ -29,7 +30,8 @@ impl<R: Print> TextOut for StdOut<'_, R> {
     fn write(&mut self, bytes: &[u8]) -> Result<(), OutFailed> {
         match io::writer(self.rt).write_all(bytes) {
             Ok(()) => Ok(()),
-            Err(_) => {
+            Err(error) => {
+                report(self.rt, "standard output", &error);
                 self.faults = self.faults.saturating_add(1);
                 Err(OutFailed::Failed)
             }

@@ -4,8 +4,10 @@ ghost use Rattle.std.specs.Vec.{vec_len};
 ghost use Rattle.tez_ports.specs.Causes.{Rose};
 
 use crate::folder::{
-    put_file, read_up_to, ready_path, remove_own_files, sink_path, stage_path, sync_folder,
+    FOLDER, PutFault, make_folder, put_file, read_up_to, ready_path, remove_own_files, sink_path,
+    stage_path, sync_folder,
 };
+use crate::report::report;
 use std::alloc::Global;
 use std::fs;
 use std::io::{self, ErrorKind};
@@ -21,20 +23,21 @@ struct Readied {
 }
 
 /// The folder `tez.out` of the working folder, which is made at the first call that writes. A sink is a
-/// file of its name. Staged and readied bytes are in files whose short names begin with a dot; staged
-/// ones outlive the process. `ready`, `stage` and `publish` answer Ok once the disk has what they wrote.
-/// A purge that fails may have removed some of the files. The time of a call grows with the number of
-/// sinks that are readied.
+/// file of its name. Staged and readied bytes are in files whose short names begin with a dot.
+/// `stage` and `publish` answer Ok once the disk has what they wrote, and it outlives the process. What
+/// `ready` puts aside need not last, and is forgotten with the process. A purge that fails may have
+/// removed some of the files. The time of a call grows with the number of sinks that are readied.
 #[derive(Drop)]
-pub struct FolderStore<'r, R: Files> {
+pub struct FolderStore<'r, R: Files + Eprint> {
     alloc: Global,
     rt: &'r R,
     readied: Vec<Readied>,
     next: u64,
+    is_made: bool,
     faults: u64,
 }
 
-impl<'r, R: Files> FolderStore<'r, R> {
+impl<'r, R: Files + Eprint> FolderStore<'r, R> {
     pub fn new(alloc: Global, rt: &'r R) -> Self
         ensures { result.faults ≡ 0 }
     {
@@ -43,30 +46,51 @@ impl<'r, R: Files> FolderStore<'r, R> {
             rt,
             readied: Vec::new(alloc),
             next: 0,
+            is_made: false,
             faults: 0,
         }
     }
 
-    fn fault(&mut self)
+    /// Counts a fault, which is told to the user.
+    fn fault(&mut self, path: &str, error: &io::Error)
         ensures rose { Rose self.old.faults self.new.faults }
         ensures later { self.old.faults ≤ self.new.faults }
     {
+        report(self.rt, path, error);
         self.faults = self.faults.saturating_add(1);
     }
 
-    /// The answer to an error, which counts a fault but where memory was missing.
-    fn fault_of(&mut self, error: io::Error) -> StoreFault
+    /// The answer to an error at a sink.
+    fn sink_fault(&mut self, name: &str, error: &io::Error) -> DeviceStop
+        ensures failed { result ≡ DeviceStop.Failed }
+        ensures rose { Rose self.old.faults self.new.faults }
+        ensures later { self.old.faults ≤ self.new.faults }
+    {
+        match sink_path(name) {
+            Ok(path) => self.fault(path.as_str(), error),
+            Err(_) => self.fault(name, error),
+        }
+        DeviceStop::Failed
+    }
+
+    /// The answer to an error, which counts a fault but where memory was missing and nothing changed.
+    fn fault_of(&mut self, path: &str, fault: PutFault) -> StoreFault
         ensures rose { result ≡ StoreFault.Failed → Rose self.old.faults self.new.faults }
         ensures steady { (result ≡ StoreFault.Failed) ⊎ (self.new.faults ≡ self.old.faults) }
         ensures later { self.old.faults ≤ self.new.faults }
         ensures never_stops { result ≡ StoreFault.Stopped → ⊥ }
     {
-        if error.kind() == ErrorKind::OutOfMemory {
-            StoreFault::NoMemory
-        } else {
-            self.fault();
-            StoreFault::Failed
-        }
+        let error = match fault {
+            PutFault::Unchanged(error) => {
+                if error.kind() == ErrorKind::OutOfMemory {
+                    return StoreFault::NoMemory;
+                }
+                error
+            }
+            PutFault::Changed(error) => error,
+        };
+        self.fault(path, &error);
+        StoreFault::Failed
     }
 
     fn place_of(&self, name: &str) -> Option<usize>
@@ -77,14 +101,31 @@ impl<'r, R: Files> FolderStore<'r, R> {
             .position(|readied| readied.name.as_str() == name)
     }
 
-    /// Puts the bytes into a file of the next number, and gives that number.
-    fn put_readied(&mut self, bytes: &[u8]) -> io::Result<u64>
+    /// Puts a file into the folder, which is made before the first one.
+    fn put(&mut self, path: &str, bytes: &[u8]) -> Result<(), PutFault>
         ensures { self.new.faults ≡ self.old.faults }
     {
-        let number = self.next;
-        put_file(self.rt, ready_path(number)?.as_str(), bytes)?;
-        self.next = number.saturating_add(1);
-        Ok(number)
+        if !self.is_made {
+            match make_folder(self.rt) {
+                Ok(()) => self.is_made = true,
+                Err(error) => return Err(PutFault::Unchanged(error)),
+            }
+        }
+        put_file(self.rt, path, bytes)
+    }
+
+    /// The same, so that the file lasts.
+    fn put_to_last(&mut self, path: &str, bytes: &[u8]) -> Result<(), PutFault>
+        ensures { self.new.faults ≡ self.old.faults }
+    {
+        match self.put(path, bytes) {
+            Ok(()) => {}
+            Err(fault) => return Err(fault),
+        }
+        match sync_folder(self.rt) {
+            Ok(()) => Ok(()),
+            Err(error) => Err(PutFault::Changed(error)),
+        }
     }
 
     /// Lets go of what was readied for a name before.
@@ -93,10 +134,8 @@ impl<'r, R: Files> FolderStore<'r, R> {
     {
         if let Some(place) = self.place_of(name) {
             let readied = self.readied.remove(place);
-            if let Ok(path) = ready_path(readied.number) {
-                // where this fails the file stays until the purge
-                let _ = fs::remove_file(self.rt, path.as_str());
-            }
+            // where this fails the file stays until the purge
+            let _ = fs::remove_file(self.rt, ready_path(readied.number).as_str());
         }
     }
 
@@ -107,19 +146,23 @@ impl<'r, R: Files> FolderStore<'r, R> {
         let Some(place) = self.place_of(name) else {
             return Err(io::Error::from(ErrorKind::NotFound));
         };
-        let from = ready_path(self.readied[place].number)?;
+        let from = ready_path(self.readied[place].number);
         fs::rename(self.rt, from.as_str(), sink_path(name)?.as_str())?;
         self.readied.remove(place);
         sync_folder(self.rt)
     }
 }
 
-impl<R: Files> OutputStore for FolderStore<'_, R> {
+impl<R: Files + Eprint> OutputStore for FolderStore<'_, R> {
     ghost store = { λ _. None };
 
     ghost faults = { λ s. s.faults };
 
     ghost stops = { λ _. 0 };
+
+    ghost lent = { λ _. 0 };
+
+    ghost is_faultless = { λ _. ⊥ };
 
     ghost is_sure = { λ _. ⊥ };
 
@@ -130,47 +173,46 @@ impl<R: Files> OutputStore for FolderStore<'_, R> {
         if self.readied.reserve(1).is_err() {
             return Err(StoreFault::NoMemory);
         }
-        match self.put_readied(bytes) {
-            Ok(number) => {
+        let number = self.next;
+        let path = ready_path(number);
+        match self.put(path.as_str(), bytes) {
+            Ok(()) => {
+                self.next = number.saturating_add(1);
                 self.forget(name);
                 let _ = self.readied.push(Readied { name: copy, number });
                 Ok(())
             }
-            Err(error) => Err(self.fault_of(error)),
+            Err(fault) => Err(self.fault_of(path.as_str(), fault)),
         }
     }
 
     fn publish(&mut self, name: &str) -> Result<(), DeviceStop> {
         match self.move_readied(name) {
             Ok(()) => Ok(()),
-            Err(_) => {
-                self.fault();
-                Err(DeviceStop::Failed)
-            }
+            Err(error) => Err(self.sink_fault(name, &error)),
         }
     }
 
     fn is_published(&mut self, name: &str) -> Result<bool, DeviceStop> {
         match is_there(self.rt, name) {
             Ok(there) => Ok(there),
-            Err(_) => {
-                self.fault();
-                Err(DeviceStop::Failed)
-            }
+            Err(error) => Err(self.sink_fault(name, &error)),
         }
     }
 
     fn stage(&mut self, attempt: AttemptId, bytes: &[u8]) -> Result<(), StoreFault> {
-        match stage_bytes(self.rt, attempt, bytes) {
+        let path = stage_path(attempt);
+        match self.put_to_last(path.as_str(), bytes) {
             Ok(()) => Ok(()),
-            Err(error) => Err(self.fault_of(error)),
+            Err(fault) => Err(self.fault_of(path.as_str(), fault)),
         }
     }
 
     fn load(&mut self, alloc: Global, attempt: AttemptId) -> Result<Vec<u8>, StoreFault> {
-        match staged_bytes(alloc, self.rt, attempt) {
+        let path = stage_path(attempt);
+        match read_up_to(alloc, self.rt, path.as_str(), u64::MAX) {
             Ok(bytes) => Ok(bytes),
-            Err(error) => Err(self.fault_of(error)),
+            Err(error) => Err(self.fault_of(path.as_str(), PutFault::Unchanged(error))),
         }
     }
 
@@ -178,25 +220,20 @@ impl<R: Files> OutputStore for FolderStore<'_, R> {
         self.readied.clear();
         match remove_own_files(self.rt) {
             Ok(()) => Ok(()),
-            Err(_) => {
-                self.fault();
+            Err(error) => {
+                self.fault(FOLDER, &error);
                 Err(DeviceStop::Failed)
             }
         }
     }
+
+    ghost faultless_tells = { λ s h. absurd h };
+
+    ghost sure_is_faultless = { λ s h. h };
 
     ghost sure_tells = { λ s h. absurd h };
 }
 
 fn is_there<R: Files>(rt: &R, name: &str) -> io::Result<bool> {
     fs::exists(rt, sink_path(name)?.as_str())
-}
-
-fn stage_bytes<R: Files>(rt: &R, attempt: AttemptId, bytes: &[u8]) -> io::Result<()> {
-    put_file(rt, stage_path(attempt)?.as_str(), bytes)?;
-    sync_folder(rt)
-}
-
-fn staged_bytes<R: Files>(alloc: Global, rt: &R, attempt: AttemptId) -> io::Result<Vec<u8>> {
-    read_up_to(alloc, rt, stage_path(attempt)?.as_str(), u64::MAX)
 }
