@@ -11,7 +11,7 @@ use tez_plan::{EdgeSpec, Graph, Head, VertexSpec};
 
 /// How many edges of each kind lead into a vertex.
 #[derive(Clone, Copy)]
-struct Incoming {
+struct EdgeCounts {
     one_to_one: usize,
     broadcast: usize,
     scatter_gather: usize,
@@ -19,13 +19,13 @@ struct Incoming {
 
 /// Takes time for each edge.
 #[tactic(auto, using(tez_plan::proofs::GraphLemmas::counts))]
-fn incoming(graph: &Graph, v: usize) -> Incoming
+fn incoming(graph: &Graph, v: usize) -> EdgeCounts
     ensures one_to_one { result.one_to_one ≡ length (incoming is_one_to_one graph.now v) }
     ensures broadcast { result.broadcast ≡ length (incoming is_broadcast graph.now v) }
     ensures scatter_gather { result.scatter_gather ≡ length (incoming is_scatter_gather graph.now v) }
     ensures few { result.one_to_one ≤ 256 }
 {
-    Incoming {
+    EdgeCounts {
         one_to_one: one_to_ones(graph.edges(), graph.ends(), v),
         broadcast: broadcasts(graph.edges(), graph.ends(), v),
         scatter_gather: scatter_gathers(graph.edges(), graph.ends(), v),
