@@ -4,7 +4,7 @@ use Rattle.tez_plan_checks.proofs.faults.check_total.Given as goal
 
 abbrev pub invariant-loop-e : goal.invariant-loop-e
 invariant-loop-e l = record {
-  sum : l.total ≡ sum_by (physical_inputs l.self) (take l.e l.self.edges);
+  sum : l.total ≡ sum_by (physical_inputs l.graph) (take l.e l.graph.edges);
   few : l.total ≤ 4000000;
-  fits : (m : ℕ) → m < l.e → too_many_inputs l.self m ≡ false;
+  fits : (m : ℕ) → m < l.e → too_many_inputs l.graph m ≡ false;
 }
