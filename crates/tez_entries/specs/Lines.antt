@@ -19,4 +19,4 @@ abbrev pub lost_withdrawal : MasterState → List AttemptId → AttemptId → Li
 lost_withdrawal m held w = withdrawal_in m (without m.router held) w
 
 abbrev pub lost_withdrawals : MasterState → List AttemptId → List AttemptId → List Entry
-lost_withdrawals m held lost = flat_map (lost_withdrawal m held) lost
+lost_withdrawals m held lost = flat_map (withdrawal_in m (without m.router held)) lost
