@@ -4,13 +4,9 @@
 --     is_single m e             the answer is one entry, and takes no memory
 --     entries_told, records_told, ordered_told, spent_told      what an answer tells
 --     IsIgnoredFor h why        the event is ignored, and why
---     TellsEntries m e r ..     if the event may come, then its answer r tells what the table of the state says; so of a report
---     pending_after m e         what is not settled after an answer to the event; so after a report
---     NeedsNoMemory m e         the answer takes no memory
---     IsOwnNext m e             the state's table chooses this event, or none, by an attempt that is to give way
 --     IsReadyFor m x, step_of x  what an answer that is not settled needs, and what it is about
 --     HasNumbers m              attempts, lives and containers can be numbered on, and each node has a life
-use Rattle.std.specs.Prelude.{◌≡◌, ◌⊎◌, ℕ, ◌<◌, ◌≤◌, ◌^◌, ⊤, Bool, true, false, if◌then◌else◌, List, [], ◌∷◌, map, length, slice_get, Option, Some, None, Result, IfOk}
+use Rattle.std.specs.Prelude.{◌≡◌, ℕ, ◌<◌, ◌≤◌, ◌^◌, ⊤, Bool, true, false, if◌then◌else◌, List, [], ◌∷◌, length, slice_get, Option, Some, None}
 use Rattle.tez_ids.specs.declared.TaskId.{TaskId}
 use Rattle.tez_ids.specs.declared.EdgeId.{EdgeId}
 use Rattle.tez_ids.specs.declared.AttemptId.{AttemptId}
@@ -23,14 +19,9 @@ use Rattle.tez_master_model.specs.declared.why.Why.{Why}
 use Rattle.tez_master_model.specs.State.{MasterState}
 use Rattle.tez_master_model.specs.Read.{processes}
 use Rattle.tez_master_model.specs.Enabled.{enabled_in}
-use Rattle.tez_history.specs.Steps.{done_entries}
-use Rattle.tez_master_model.specs.Entries.{entries_in, is_last_in}
-use Rattle.tez_master_model.specs.Choice.{choice_in}
-use Rattle.tez_master_model.specs.Bytes.{bytes_of}
-use Rattle.tez_master_model.specs.Victim.{IsVictim}
+use Rattle.tez_master_model.specs.Entries.{is_last_in}
 use Rattle.tez_master_model.specs.Settled.{settled, after_done}
 use Rattle.tez_core.specs.Prepared.{IsPreparedFor, IsAdmissionFor}
-use Rattle.tez_entries.specs.Records.{records_of}
 use Rattle.tez_lead.specs.Losing.{HasRooms}
 use Rattle.tez_master.specs.declared.pending.Pending.{Pending}
 use Rattle.tez_master.specs.declared.pending.Pending.TheVariants as pending
@@ -122,49 +113,6 @@ ordered_in _ = None
 abbrev pub spent_in : MasterState → CoreEvent → Option TaskId
 spent_in m (Fail a) = if is_last_in m a.task then Some a.task else None
 spent_in m _ = None
-
--- ---- the answer to an event
-
-abbrev pub TellsEntries : {E : Type 0} → MasterState → CoreEvent → Result Handled E → Type 0
-TellsEntries m e r = enabled_in m e ≡ true → IfOk r (λ h. entries_told h ≡ entries_in m e)
-
--- those that its entries append
-abbrev pub TellsRecords : {E : Type 0} → MasterState → CoreEvent → Result Handled E → Type 0
-TellsRecords m e r = enabled_in m e ≡ true → IfOk r (λ h. records_told h ≡ records_of (entries_in m e))
-
-abbrev pub TellsOrder : {E : Type 0} → MasterState → CoreEvent → Result Handled E → Type 0
-TellsOrder m e r = enabled_in m e ≡ true → IfOk r (λ h. ordered_told h ≡ ordered_in e)
-
-abbrev pub TellsSpent : {E : Type 0} → MasterState → CoreEvent → Result Handled E → Type 0
-TellsSpent m e r = enabled_in m e ≡ true → IfOk r (λ h. spent_told h ≡ spent_in m e)
-
--- in the form of one entry, where it is one
-abbrev pub TellsSingle : {E : Type 0} → MasterState → CoreEvent → Result Handled E → Type 0
-TellsSingle m e r = enabled_in m e ≡ true → IfOk r (λ h. is_single_answer h ≡ is_single m e)
-
--- none of an event that is ignored
-abbrev pub pending_after : MasterState → CoreEvent → Option Step
-pending_after m e = if enabled_in m e then Some (Took e) else None
-
--- it is one entry, or none
-abbrev pub NeedsNoMemory : MasterState → CoreEvent → Type 0
-NeedsNoMemory m e = (is_single m e ≡ true) ⊎ (enabled_in m e ≡ false)
-
--- ---- the answer to a report, of an attempt that processes
-
-abbrev pub TellsDoneEntries : {E : Type 0} → MasterState → AttemptId → List (EdgeId × ℕ) → Result Handled E → Type 0
-TellsDoneEntries m a made r = processes m a ≡ true → IfOk r (λ h. entries_told h ≡ done_entries a (map bytes_of made))
-
-abbrev pub TellsDoneRecords : {E : Type 0} → MasterState → AttemptId → List (EdgeId × ℕ) → Result Handled E → Type 0
-TellsDoneRecords m a made r = processes m a ≡ true → IfOk r (λ h. records_told h ≡ records_of (done_entries a (map bytes_of made)))
-
-abbrev pub pending_after_report : MasterState → AttemptId → List (EdgeId × ℕ) → Option Step
-pending_after_report m a made = if processes m a then Some (Reported a made) else None
-
--- ---- its own next event
-
-abbrev pub IsOwnNext : MasterState → Option CoreEvent → Type 0
-IsOwnNext m e = (victim : Option AttemptId) × IsVictim m victim × (e ≡ choice_in m victim)
 
 -- ---- what an unsettled answer needs
 

@@ -1,15 +1,17 @@
 //! The master, and its answers.
-ghost use Rattle.std.specs.Prelude.{◌≡◌, ◌∷◌, [], not, true, false, Some, None, IsOk, IfOk, IfErr, OnOk, OnErr};
+ghost use Rattle.std.specs.Prelude.{◌≡◌, ◌⊎◌, ◌∷◌, [], not, true, false, if◌then◌else◌, map, Some, None, IsOk, IfOk, IfErr, OnOk, OnErr};
 ghost use Rattle.tez_events.specs.declared.CoreEvent.{CoreEvent};
+ghost use Rattle.tez_history.specs.Steps.{done_entries};
 ghost use Rattle.tez_pool.specs.Victim.{AreIn};
 ghost use Rattle.tez_master_model.specs.Recovery.{found, CanBeFound};
 ghost use Rattle.tez_master_model.specs.Fresh.{fresh};
 ghost use Rattle.tez_master_model.specs.Read.{processes};
 ghost use Rattle.tez_master_model.specs.Enabled.{enabled_in, why_in, why_not};
 ghost use Rattle.tez_master_model.specs.Entries.{entries_in};
+ghost use Rattle.tez_master_model.specs.Bytes.{bytes_of};
 ghost use Rattle.tez_entries.specs.Ranges.{CanTell};
 ghost use Rattle.tez_entries.specs.Records.{records_of};
-ghost use Rattle.tez_master.specs.Master.{Took, is_ignored, is_single_answer, IsIgnoredFor, entries_told, records_told, spent_told, ordered_told, ordered_in, spent_in, TellsEntries, TellsRecords, TellsOrder, TellsSpent, TellsSingle, pending_after, NeedsNoMemory, TellsDoneEntries, TellsDoneRecords, pending_after_report, HasNumbers};
+ghost use Rattle.tez_master.specs.Master.{Took, Reported, is_single, is_ignored, is_single_answer, IsIgnoredFor, entries_told, records_told, spent_told, ordered_told, ordered_in, spent_in, HasNumbers};
 
 use crate::answers::{effects, prepare, success, why_ignored};
 use crate::handled::{Effects, Handled};
@@ -96,14 +98,14 @@ impl Master {
         ensures same { self.new.state ≡ self.old.state }
         ensures taken { IfOk result (λ h. is_ignored h ≡ not (enabled_in self.old.state e.now)) }
         ensures why { IfOk result (λ h. IsIgnoredFor h (why_not self.old.state e.now)) }
-        ensures entries { TellsEntries self.old.state e.now result }
-        ensures records { TellsRecords self.old.state e.now result }
-        ensures ordered { TellsOrder self.old.state e.now result }
-        ensures spent { TellsSpent self.old.state e.now result }
-        ensures single { TellsSingle self.old.state e.now result }
-        ensures pending { OnOk result (self.new.pending ≡ pending_after self.old.state e.now) }
+        ensures entries { enabled_in self.old.state e.now ≡ true → IfOk result (λ h. entries_told h ≡ entries_in self.old.state e.now) }
+        ensures records { enabled_in self.old.state e.now ≡ true → IfOk result (λ h. records_told h ≡ records_of (entries_in self.old.state e.now)) }
+        ensures ordered { enabled_in self.old.state e.now ≡ true → IfOk result (λ h. ordered_told h ≡ ordered_in e.now) }
+        ensures spent { enabled_in self.old.state e.now ≡ true → IfOk result (λ h. spent_told h ≡ spent_in self.old.state e.now) }
+        ensures single { enabled_in self.old.state e.now ≡ true → IfOk result (λ h. is_single_answer h ≡ is_single self.old.state e.now) }
+        ensures pending { OnOk result (self.new.pending ≡ (if enabled_in self.old.state e.now then Some (Took e.now) else None)) }
         ensures dropped { OnErr result (self.new.pending ≡ None) }
-        ensures no_memory { NeedsNoMemory self.old.state e.now → IsOk result }
+        ensures no_memory { (is_single self.old.state e.now ≡ true) ⊎ (enabled_in self.old.state e.now ≡ false) → IsOk result }
     {
         self.pending = None;
         if !self.lead.is_enabled(e) {
@@ -150,12 +152,12 @@ impl Master {
         ensures same { self.new.state ≡ self.old.state }
         ensures taken { IfOk result (λ h. is_ignored h ≡ not (processes self.old.state a)) }
         ensures why { IfOk result (λ h. (w : Why) → why_in self.old.state a ≡ Some w → IsIgnoredFor h w) }
-        ensures entries { TellsDoneEntries self.old.state a made.now result }
-        ensures records { TellsDoneRecords self.old.state a made.now result }
+        ensures entries { processes self.old.state a ≡ true → IfOk result (λ h. entries_told h ≡ done_entries a (map bytes_of made.now)) }
+        ensures records { processes self.old.state a ≡ true → IfOk result (λ h. records_told h ≡ records_of (done_entries a (map bytes_of made.now))) }
         ensures ordered { IfOk result (λ h. ordered_told h ≡ None) }
         ensures spent { IfOk result (λ h. spent_told h ≡ None) }
         ensures single { IfOk result (λ h. is_single_answer h ≡ false) }
-        ensures pending { OnOk result (self.new.pending ≡ pending_after_report self.old.state a made.now) }
+        ensures pending { OnOk result (self.new.pending ≡ (if processes self.old.state a then Some (Reported a made.now) else None)) }
         ensures dropped { OnErr result (self.new.pending ≡ None) }
         ensures no_memory { processes self.old.state a ≡ false → IsOk result }
     {

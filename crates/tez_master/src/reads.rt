@@ -1,11 +1,13 @@
 //! What a master tells of itself. None of these calls takes memory.
 ghost use Rattle.std.specs.Prelude.{◌≡◌, ◌/◌, IfSome, Some, Option, slice_get};
 ghost use Rattle.std.specs.Option.{option_map};
+ghost use Rattle.tez_ids.specs.declared.AttemptId.{AttemptId as Attempt};
 ghost use Rattle.tez_pool.specs.Table.{place_held};
 ghost use Rattle.tez_schedule.specs.Table.{config_at, progress_at};
 ghost use Rattle.tez_master_model.specs.Enabled.{why_in};
 ghost use Rattle.tez_master_model.specs.Read.{winner_in, free_place, piece_in};
-ghost use Rattle.tez_master.specs.Master.{IsOwnNext};
+ghost use Rattle.tez_master_model.specs.Choice.{choice_in};
+ghost use Rattle.tez_master_model.specs.Victim.{IsVictim};
 
 use crate::master::Master;
 use tez_events::CoreEvent;
@@ -17,7 +19,7 @@ impl Master {
     /// The master's own next event, None exactly where none of its own may come. Takes time in the
     /// places, the vertices and the edges, and not in tasks and inputs.
     pub fn choice(&self) -> Option<CoreEvent>
-        ensures { IsOwnNext self.now.state result }
+        ensures { (victim : Option Attempt) × IsVictim self.now.state victim × (result ≡ choice_in self.now.state victim) }
     {
         self.lead.choice()
     }
