@@ -1,0 +1,16 @@
+//! Tests of the parts of a master and of the work on records: the pool, schedule managers, shelves, orders,
+//! operators, and what a journal tells. It has no code of its own.
+#![tactic(auto)]
+
+#[cfg(test)]
+mod containers;
+#[cfg(test)]
+mod journals;
+#[cfg(test)]
+mod managers;
+#[cfg(test)]
+mod orders;
+#[cfg(test)]
+mod pieces;
+#[cfg(test)]
+mod programs;
