@@ -1,7 +1,8 @@
 //! Journals over disks in memory.
 ghost use Rattle.std.specs.Prelude.{OnOk};
 ghost use Rattle.tez_events.specs.Body.{HasBody};
-ghost use Rattle.tez_journal.specs.Journal.{IsOpen};
+ghost use Rattle.tez_journal.specs.Gate.{IsOpenAt};
+ghost use Rattle.tez_journal.specs.Journal.{disk_of, gate_of};
 
 use std::alloc::Global;
 use std::process::Abort;
@@ -55,8 +56,8 @@ fn add<D: JournalDisk>(
     synced: bool,
 ) -> Result<(), DeviceStop>
     requires body { HasBody entry.now }
-    requires sound { IsOpen D.disk journal.old }
-    ensures sound { OnOk result (IsOpen D.disk journal.new) }
+    requires sound { IsOpenAt (D.disk (disk_of journal.old)) (gate_of journal.old) }
+    ensures sound { OnOk result (IsOpenAt (D.disk (disk_of journal.new)) (gate_of journal.new)) }
 {
     let body = encode(alloc, entry).expect(rt, "memory");
     assert!(rt; body.len() < 1000);
@@ -70,7 +71,7 @@ fn add<D: JournalDisk>(
 
 // Appends four records, the second one synced, and tells how many answered Ok.
 fn append_four<D: JournalDisk>(rt: &impl Abort, alloc: Global, journal: &mut Journal<D>) -> usize
-    requires { IsOpen D.disk journal.old }
+    requires { IsOpenAt (D.disk (disk_of journal.old)) (gate_of journal.old) }
 {
     let Ok(()) = add(rt, alloc, journal, &row(0), false) else {
         return 0;

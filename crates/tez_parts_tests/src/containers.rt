@@ -27,8 +27,9 @@ fn make(rt: &impl Abort, pool: &mut Pool, call: Call) -> Option<ContainerId> {
     assert!(rt; pool.next_container().0 < 99);
     match call {
         Call::Place(index, place) => {
-            assert!(rt; pool.place_of(attempt(index)).is_none());
-            return pool.place(attempt(index), place);
+            let a = attempt(index);
+            assert!(rt; pool.place_of(a).is_none());
+            return pool.place(a, place);
         }
         Call::Release(index) => pool.release(attempt(index)),
         Call::Lose(place) => {

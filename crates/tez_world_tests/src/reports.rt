@@ -4,7 +4,7 @@ use crate::worlds::{
 };
 use std::alloc::{AllocError, Global};
 use std::test::Fail;
-use tez_master_view::Why;
+use tez_master_model::Why;
 use tez_orders::Order;
 use tez_ports_mem::{MemStore, SureDisk, SureStore};
 use tez_world::{Device, Event, Took, Verdict, World};
