@@ -1,8 +1,8 @@
-//! What a cut of the power leaves of a disk in memory, and which of its calls fail.
+//! What a cut of the power leaves of a disk in memory.
 use std::alloc::Global;
 use std::process::Abort;
 use std::test::Fail;
-use tez_ports::{DeviceStop, JournalDisk};
+use tez_ports::JournalDisk;
 use tez_ports_mem::{MemDisk, Picker};
 
 /// Takes room and writes, where the content reaches that far.
@@ -50,48 +50,6 @@ fn a_power_cut_leaves_what_is_picked(rt: HostRuntime) -> Result<(), Fail> {
         assert_eq!(rt; disk.content(), b"aUVdXYZ".as_slice());
         disk.power_cut();
         assert_eq!(rt; disk.content(), want.1);
-    }
-    Ok(())
-}
-
-/// One call of a disk.
-#[derive(Clone, Copy)]
-enum Call {
-    Size,
-    Read,
-    Write,
-    Sync,
-}
-
-fn make(disk: &mut MemDisk, call: Call) -> Result<(), DeviceStop> {
-    match call {
-        Call::Size => disk.size().map(|_| ()),
-        Call::Read => disk.read_at(0, &mut [0u8; 2]),
-        Call::Write => disk.write_at(2, b"c"),
-        Call::Sync => disk.sync(),
-    }
-}
-
-#[test]
-fn listed_calls_of_a_disk_fail_or_are_stopped(rt: HostRuntime) -> Result<(), Fail> {
-    let alloc = rt.alloc();
-    let rows = [
-        (Call::Size, Err(DeviceStop::Failed), 2),
-        (Call::Size, Err(DeviceStop::Stopped), 2),
-        (Call::Read, Err(DeviceStop::Failed), 2),
-        (Call::Read, Err(DeviceStop::Stopped), 2),
-        (Call::Read, Ok(()), 2),
-        (Call::Write, Err(DeviceStop::Failed), 2),
-        (Call::Write, Err(DeviceStop::Stopped), 3),
-        (Call::Sync, Err(DeviceStop::Stopped), 3),
-        (Call::Sync, Err(DeviceStop::Failed), 3),
-        (Call::Sync, Ok(()), 3),
-    ];
-    let mut disk = disk(alloc, &[1, 3, 6, 9], &[2, 4, 7, 8], Picker::Drop)?;
-    disk.reserve(4)?;
-    for (call, answer, length) in rows {
-        assert_eq!(rt; make(&mut disk, call), answer);
-        assert_eq!(rt; disk.content().len(), length);
     }
     Ok(())
 }
