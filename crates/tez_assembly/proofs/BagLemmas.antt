@@ -3,7 +3,7 @@
 use Rattle.std.proofs.Common.{◌≡◌, ◌∙◌, ℕ, ◌+◌, bytes_eq, Bool, true, false, cond, not, List, [], ◌∷◌, ◌++◌, map, filter, flat_map, Option, None, Some, refl, sym, ap, ap₂, unwrap_or}
 use Rattle.std.proofs.lemmas.List.Sums.{sum_by-append}
 use Rattle.tez_lists.proofs.Cases.{cases}
-use Rattle.tez_record.specs.Bag.{sort}
+use Rattle.tez_record.specs.Bag.{sort, first_or}
 use Rattle.tez_record.proofs.BagLemmas.{same_bag, sum_by-same}
 use Rattle.tez_record.proofs.PartsLemmas.{flat_map-same}
 use Rattle.tez_ids.specs.declared.VertexId.{VertexId}
@@ -15,7 +15,7 @@ use Rattle.tez_plan.specs.Dag.{Dag, from, vertex}
 use Rattle.tez_operators.specs.Process.{Keys, Primary, is_left, records_of, reads}
 use Rattle.tez_values.specs.Heads.{HeadInputs, SameInputs, head_rows, is_bad_for_head}
 use Rattle.tez_values.specs.Steps.{step_rows, is_bad_for, bad_in_steps}
-use Rattle.tez_values.specs.Program.{output, first_bad, first_or, least_of}
+use Rattle.tez_values.specs.Program.{output, first_bad, least_of}
 use Rattle.tez_values.proofs.SameLemmas.{filter-same, head_rows-same, output-same}
 use Rattle.tez_history.specs.Shape.{Edge}
 use Rattle.tez_assembly.specs.Order.{Records, ahead, beside, keys_for, part_for, source_part, primary_for, side_for}

@@ -2,13 +2,13 @@
 ghost use Rattle.std.specs.Prelude.{◌≡◌, ◌++◌, ◌&&◌, ◌==◌, ◌≤◌, ◌<◌, map, length, IfOk, OnOk};
 ghost use Rattle.std.specs.List.{filter};
 ghost use Rattle.tez_plan.specs.Dag.{edge, keys_of, tasks_of as planned};
-ghost use Rattle.tez_meaning.specs.Value.{is_left};
-ghost use Rattle.tez_meaning.specs.Known.{is_on_side, is_ahead};
+ghost use Rattle.tez_meaning.specs.Known.{is_ahead};
 ghost use Rattle.tez_history.specs.Shape.{edges_to};
 ghost use Rattle.tez_assembly.specs.Order.{keys_for, key_at, outs_for, cut_by};
 
 use std::alloc::{AllocError, Global};
 use tez_ids::{EdgeId, VertexId};
+use tez_meaning::leads_ahead;
 use tez_orders::Cut;
 use tez_plan::{Columns, EdgeSpec, Head, Movement, Plan};
 
@@ -56,41 +56,6 @@ fn columns_of(alloc: Global, edge: &EdgeSpec) -> Result<Columns, AllocError>
     ensures { IfOk result (λ columns. columns ≡ keys_of edge.now) }
 {
     Ok(Columns::new(Vec::from_slice(alloc, edge.movement.keys())?))
-}
-
-fn leads_ahead(edge: &EdgeSpec, target: VertexId, v: VertexId, head: &Head, left: bool) -> bool
-    ensures { result ≡ ((target.0 == v.0) && is_on_side head.now left edge.now) }
-{
-    target.0 == v.0 && is_on_side(head, left, edge)
-}
-
-fn is_on_side(head: &Head, left: bool, edge: &EdgeSpec) -> bool
-    ensures { result ≡ is_on_side head.now left edge.now }
-{
-    if edge.movement.is_broadcast() {
-        return false;
-    }
-    if left {
-        is_left(head, edge)
-    } else {
-        !is_left(head, edge)
-    }
-}
-
-/// Whether the edge is from the left source of a join; at another head each is.
-fn is_left(head: &Head, edge: &EdgeSpec) -> bool
-    ensures { result ≡ is_left head.now edge.now }
-{
-    match head {
-        Head::Join { left } => edge.source.as_str() == left.as_str(),
-        Head::Each
-        | Head::Sum { .. }
-        | Head::Count
-        | Head::Distinct
-        | Head::Lookup { .. }
-        | Head::KeepIn { .. }
-        | Head::DropIn { .. } => true,
-    }
 }
 
 /// The edges into a vertex, in order. It goes over the edges of the plan.

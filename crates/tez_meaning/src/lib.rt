@@ -16,7 +16,7 @@ ghost use Rattle.tez_meaning.specs.Value.{value, value_from};
 pub use evaluate::meaning;
 pub use fault::MeaningFault;
 pub use job::{Job, has_sources};
-pub use reads::source_lines;
+pub use reads::leads_ahead;
 
 /// A vertex makes what its program makes of what its sources make.
 pub fn values_come_from_sources()

@@ -82,7 +82,10 @@ fn columns_ahead(
     Ok(Columns::new(Vec::new(alloc)))
 }
 
-fn leads_ahead(edge: &EdgeSpec, target: VertexId, v: VertexId, head: &Head, left: bool) -> bool
+/// Whether an edge with this target leads to a vertex, on one side of its head: from the left source
+/// of a join or from the other one. Every source of another head is on the left; a broadcast edge is
+/// on neither side.
+pub fn leads_ahead(edge: &EdgeSpec, target: VertexId, v: VertexId, head: &Head, left: bool) -> bool
     ensures { result ≡ ((target.0 == v.0) && is_on_side head.now left edge.now) }
 {
     target.0 == v.0 && is_on_side(head, left, edge)
@@ -128,7 +131,7 @@ fn source_of(alloc: Global, job: &Job, vertex: &VertexSpec) -> Result<Records, A
 }
 
 /// The lines of the source file of this name, and none where it is not there. Copies them.
-pub fn source_lines(alloc: Global, job: &Job, name: &str) -> Result<Records, AllocError>
+pub(crate) fn source_lines(alloc: Global, job: &Job, name: &str) -> Result<Records, AllocError>
     ensures { IfOk result (λ rs. rs ≡ lines_in job.now name.now) }
 {
     lines_of(alloc, job.sources(), name)

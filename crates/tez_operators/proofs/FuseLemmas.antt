@@ -7,13 +7,13 @@ use Rattle.std.specs.List.{list_all}
 use Rattle.std.proofs.lemmas.Bool.{and_parts, and_from, not-true}
 use Rattle.std.proofs.lemmas.List.{take-append-drop, take_more}
 use Rattle.tez_lists.proofs.Flat.{append-nil}
-use Rattle.tez_record.specs.Bag.{sort}
+use Rattle.tez_record.specs.Bag.{sort, first_or}
 use Rattle.tez_plan.specs.declared.parts.Step.{Step}
 use Rattle.tez_plan.specs.declared.parts.Step.TheVariants.{Tokenise, Filter, Project}
 use Rattle.tez_lists.proofs.Cases.{both}
 use Rattle.tez_plan.specs.declared.parts.Test.{Test}
 use Rattle.tez_values.specs.Steps.{step_rows, holds, is_bad_for, run, bad_in_steps, reads_number}
-use Rattle.tez_values.specs.Program.{first_or, least_of}
+use Rattle.tez_values.specs.Program.{least_of}
 use Rattle.tez_values.proofs.StepLemmas.{run-append, run-nil}
 use Rattle.tez_operators.specs.Fuse.{is_plain, made_of, IsPass}
 use Rattle.tez_operators.specs.Process.{IsBadAnswer}

@@ -2,13 +2,11 @@
 ghost use Rattle.std.specs.Prelude.{◌≡◌, [], None, IfOk, IfErr, OnOk, is_none};
 ghost use Rattle.std.specs.List.{filter};
 ghost use Rattle.std.specs.Option.{unwrap_or};
-ghost use Rattle.tez_record.specs.Bag.{sort};
+ghost use Rattle.tez_record.specs.Bag.{sort, first_or};
 ghost use Rattle.tez_values.specs.Heads.{head_rows, is_bad_for_head, sum_rows, count_rows, distinct_rows};
-ghost use Rattle.tez_values.specs.Program.{first_or};
 ghost use Rattle.tez_record.specs.Field.{number};
 ghost use Rattle.tez_operators.specs.Process.{reads, records_of, is_left, IsBadAnswer};
 
-use crate::bad::least;
 use crate::fault::ProcessFault;
 use crate::groups::join;
 use crate::inputs::Inputs;
@@ -18,7 +16,7 @@ use crate::totals::{Amount, key_rows, total_rows, totals_by_key};
 use std::alloc::{AllocError, Global};
 use tez_ids::VertexId;
 use tez_plan::{Columns, Head};
-use tez_record::{Records, number};
+use tez_record::{Records, least, number};
 
 /// The rows that a head makes of its inputs, in some order, or the least bad record.
 pub fn head_rows(

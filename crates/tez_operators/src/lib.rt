@@ -1,7 +1,6 @@
 //! Heads and steps as programs: what a task makes of lists that were cut and routed.
 #![tactic(auto)]
 
-mod bad;
 mod fault;
 mod filters;
 mod fuse;

@@ -6,13 +6,12 @@ ghost use Rattle.tez_values.specs.Program.{least_of};
 ghost use Rattle.tez_operators.specs.Process.{IsBadAnswer};
 ghost use Rattle.tez_operators.specs.Fuse.{IsPass};
 
-use crate::bad::least;
 use crate::fault::ProcessFault;
 use crate::filters::reads_number;
 use crate::fuse::{fused, pass_len};
 use std::alloc::{AllocError, Global};
 use tez_plan::Step;
-use tez_record::{Records, number};
+use tez_record::{Records, least, number};
 
 /// What the steps make of the rows, or the least bad record of the first step that has one. It
 /// goes over the rows once for each step that reads a number, with the steps up to the next such.

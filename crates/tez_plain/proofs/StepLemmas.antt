@@ -5,14 +5,14 @@
 --     none_first          where there is no first record there is none
 use Rattle.std.proofs.Common.{◌≡◌, ℕ, List, [], ◌∷◌, refl, sym, ap, ap₂, subst, ◌∙◌, filter, flat_map, Option, None, ◌+◌, ◌<◌, get_or, drop, length}
 use Rattle.std.proofs.lemmas.List.{drop_more}
-use Rattle.tez_record.specs.Bag.{sort}
+use Rattle.tez_record.specs.Bag.{sort, first_or}
 use Rattle.tez_record.proofs.PartsLemmas.{flat_map-same}
 use Rattle.tez_values.proofs.SameLemmas.{filter-same}
 use Rattle.tez_plan.specs.declared.parts.Step.{Step}
 use Rattle.tez_values.specs.Steps.{step_rows, is_bad_for, run, bad_in_steps}
 use Rattle.tez_plan.specs.declared.parts.Head.{Head}
 use Rattle.tez_values.specs.Heads.{HeadInputs, head_rows, is_bad_for_head}
-use Rattle.tez_values.specs.Program.{first_or, least_of, first_bad}
+use Rattle.tez_values.specs.Program.{least_of, first_bad}
 use Rattle.tez_plain.specs.declared.fault.PlainFault.{PlainFault}
 use Rattle.tez_plain.specs.declared.fault.PlainFault.TheVariants.{BadRecord, NoMemory}
 use Rattle.tez_plain.specs.Answer.{IsBadAnswer}

@@ -1,24 +1,26 @@
 // The rows of a head.
 ghost use Rattle.std.specs.Prelude.{◌≡◌, [], None, IfOk, IfErr, OnOk, is_none};
 ghost use Rattle.std.specs.List.{filter};
-ghost use Rattle.tez_record.specs.Bag.{sort};
+ghost use Rattle.tez_record.specs.Bag.{sort, first_or};
 ghost use Rattle.tez_record.specs.Field.{number};
 ghost use Rattle.tez_values.specs.Heads.{head_rows, is_bad_for_head, sum_rows};
-ghost use Rattle.tez_values.specs.Program.{first_or};
 ghost use Rattle.tez_plain.specs.Answer.{IsBadAnswer};
 ghost use Rattle.tez_plain.specs.Numbers.{head_reads_number};
 
 use crate::fault::PlainFault;
-use crate::least::least;
 use crate::pairs::{chosen, join};
 use crate::reads::HeadReads;
 use crate::runs::{Says, rows_by_key};
 use std::alloc::{AllocError, Global};
 use tez_plan::Head;
-use tez_record::{Records, number};
+use tez_record::{Records, least, number};
 
 /// The rows that a head makes of what it reads, in some order, or the least bad record.
-pub fn evaluate_head(alloc: Global, head: &Head, inputs: &HeadReads) -> Result<Records, PlainFault>
+pub(crate) fn evaluate_head(
+    alloc: Global,
+    head: &Head,
+    inputs: &HeadReads,
+) -> Result<Records, PlainFault>
     ensures rows { IfOk result (λ rows. sort rows ≡ sort (head_rows head.now inputs.now)) }
     ensures no_bad { OnOk result (sort (filter (is_bad_for_head head.now) inputs.now.primary) ≡ []) }
     ensures bad { IfErr result (λ fault. IsBadAnswer fault (first_or (sort (filter (is_bad_for_head head.now) inputs.now.primary)) None)) }

@@ -6,7 +6,6 @@ mod fault;
 mod heads;
 mod key;
 mod keyed;
-mod least;
 mod pairs;
 mod program;
 mod reads;
@@ -15,7 +14,6 @@ mod steps;
 mod words;
 
 pub use fault::PlainFault;
-pub use heads::evaluate_head;
 pub use program::evaluate;
 pub use reads::HeadReads;
 pub use steps::evaluate_step;

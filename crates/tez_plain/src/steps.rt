@@ -2,20 +2,19 @@
 ghost use Rattle.std.specs.Prelude.{◌≡◌, ◌∷◌, [], None, IfOk, IfErr, OnOk};
 ghost use Rattle.std.specs.List.{filter, flat_map};
 ghost use Rattle.tez_record.specs.Field.{key};
-ghost use Rattle.tez_record.specs.Bag.{sort};
+ghost use Rattle.tez_record.specs.Bag.{sort, first_or};
 ghost use Rattle.tez_plan.specs.declared.parts.Step.TheVariants.{Tokenise, Project};
 ghost use Rattle.tez_values.specs.Steps.{holds, reads_number, is_bad_for, step_rows, run, bad_in_steps};
-ghost use Rattle.tez_values.specs.Program.{first_or, least_of};
+ghost use Rattle.tez_values.specs.Program.{least_of};
 ghost use Rattle.tez_plain.specs.Answer.{IsBadAnswer};
 ghost use Rattle.tez_plain.specs.Keyed.{one_each};
 ghost use Rattle.tez_plain.specs.Numbers.{step_reads_number};
 
 use crate::fault::PlainFault;
-use crate::least::least;
 use crate::words::push_words;
 use std::alloc::{AllocError, Global};
 use tez_plan::{Step, Test};
-use tez_record::{Records, contains, field, number};
+use tez_record::{Records, contains, field, least, number};
 
 /// What the steps make of the rows, or the least bad record of the first step that has one.
 pub fn run_steps(alloc: Global, steps: &[Step], rows: Records) -> Result<Records, PlainFault>

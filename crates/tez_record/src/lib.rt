@@ -4,6 +4,7 @@
 mod block;
 mod fields;
 mod find;
+mod first;
 mod owned;
 mod records;
 mod sort_key;
@@ -16,6 +17,7 @@ ghost use Rattle.tez_record.specs.Bag.{compare, sort, text};
 
 pub use fields::{field, key, number, number_of, push_key};
 pub use find::contains;
+pub use first::least;
 pub use owned::{Record, is_record};
 pub use records::{Iter, Records, bag_sort, bag_text, lines, lines_of};
 

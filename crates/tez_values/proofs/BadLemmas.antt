@@ -5,14 +5,14 @@
 use Rattle.std.proofs.Common.{◌≡◌, ℕ, ◌+◌, ◌<◌, Bool, true, false, cond, ◌||◌, List, [], ◌∷◌, ◌++◌, refl, sym, ap, ap₂, ◌∙◌, arith, count_by, filter, flat_map, Option, is_some}
 use Rattle.std.specs.List.{list_any}
 use Rattle.std.proofs.lemmas.List.Sums.{sum_by-cons}
-use Rattle.tez_record.specs.Bag.{place, sort}
+use Rattle.tez_record.specs.Bag.{place, sort, first_or}
 use Rattle.tez_lists.proofs.Cases.{cases, both}
 use Rattle.tez_record.proofs.BagLemmas.{at_most, sum_by-same}
 use Rattle.tez_plan.specs.declared.parts.Head.{Head}
 use Rattle.tez_plan.specs.declared.parts.Step.{Step}
 use Rattle.tez_values.specs.Heads.{HeadInputs, head_rows, is_bad_for_head}
 use Rattle.tez_values.specs.Steps.{step_rows, is_bad_for, bad_in_steps}
-use Rattle.tez_values.specs.Program.{first_or, least_of, is_bad}
+use Rattle.tez_values.specs.Program.{least_of, is_bad}
 
 -- ---- a test of some element
 

@@ -9,7 +9,7 @@ use Rattle.std.specs.Fmt.{signed_decimal}
 use Rattle.std.proofs.lemmas.List.Concat.{flat_map_single}
 use Rattle.std.proofs.lemmas.List.Sums.{sum_by-cons}
 use Rattle.tez_record.specs.Field.{key, number}
-use Rattle.tez_record.specs.Bag.{place, sort}
+use Rattle.tez_record.specs.Bag.{place, sort, first_or}
 use Rattle.tez_lists.proofs.Cases.{cases}
 use Rattle.tez_record.proofs.BagLemmas.{at_most, count, same_record, same_bag, sum_by-same}
 use Rattle.tez_lists.proofs.Sums.{sum_by-flat_map, sum_by-ext}
@@ -20,7 +20,7 @@ use Rattle.tez_plan.specs.declared.parts.Step.{Step}
 use Rattle.tez_values.specs.Heads.{HeadInputs, SameInputs, beside, is_among, is_good, distinct, has_key, sum_of, rows_by_key, sum_rows, count_rows, distinct_rows, join_rows, head_rows}
 use Rattle.tez_values.specs.Heads.{is_bad_for_head}
 use Rattle.tez_values.specs.Steps.{step_rows, is_bad_for, bad_in_steps}
-use Rattle.tez_values.specs.Program.{output, first_bad, first_or, least_of}
+use Rattle.tez_values.specs.Program.{output, first_bad, least_of}
 use Rattle.tez_values.proofs.StepLemmas.{run-same}
 
 pub filter_is : (p : List ℕ → Bool) (xs : List (List ℕ)) → filter p xs ≡ flat_map (λ x. cond (p x) (x ∷ []) []) xs

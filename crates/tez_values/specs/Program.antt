@@ -3,7 +3,7 @@
 --     first_bad head steps inputs     the least bad record of the head, or else of the first step that has one
 use Rattle.std.specs.Prelude.{ℕ, Bool, List, [], ◌∷◌, Option, Some, None, is_some}
 use Rattle.std.specs.List.{filter}
-use Rattle.tez_record.specs.Bag.{sort}
+use Rattle.tez_record.specs.Bag.{sort, first_or}
 use Rattle.tez_plan.specs.declared.parts.Head.{Head}
 use Rattle.tez_plan.specs.declared.parts.Step.{Step}
 use Rattle.tez_values.specs.Heads.{HeadInputs, head_rows, is_bad_for_head}
@@ -15,11 +15,6 @@ output head steps i = sort (run steps (head_rows head i))
 -- the bad records of the head and of each step in turn
 abbrev pub bad_records : Head → List Step → HeadInputs → List (List (List ℕ))
 bad_records head steps i = filter (is_bad_for_head head) i.primary ∷ bad_in_steps steps (head_rows head i)
-
--- the first of the list, or else what comes later
-abbrev pub first_or : List (List ℕ) → Option (List ℕ) → Option (List ℕ)
-first_or [] later = later
-first_or (r ∷ rs) later = Some r
 
 -- the least record of the first bag that is not empty
 abbrev pub least_of : List (List (List ℕ)) → Option (List ℕ)

@@ -1,6 +1,5 @@
 use Rattle.std.proofs.Common.{◌∙◌, None, sym, ap}
-use Rattle.tez_record.specs.Bag.{sort}
-use Rattle.tez_values.specs.Program.{first_or}
+use Rattle.tez_record.specs.Bag.{sort, first_or}
 use Rattle.tez_operators.proofs.FuseLemmas.{pass_bad}
 use Rattle.tez_operators.proofs.steps.run_pass.Goals as goal
 

@@ -1,12 +1,12 @@
-// The least bad record.
+// The least record.
 ghost use Rattle.std.specs.Prelude.{◌≡◌, None, IfOk};
-ghost use Rattle.tez_record.specs.Bag.{sort};
-ghost use Rattle.tez_values.specs.Program.{first_or};
+ghost use Rattle.tez_record.specs.Bag.{sort, first_or};
 
+use crate::owned::Record;
+use crate::records::Records;
 use std::alloc::{AllocError, Global};
-use tez_record::{Record, Records};
 
-/// The least of these records in byte order. It sorts them.
+/// The least of these records in byte order, if there is one. It sorts them.
 pub fn least(alloc: Global, records: &Records) -> Result<Option<Record>, AllocError>
     ensures { IfOk result (λ least. least ≡ first_or (sort records.now) None) }
 {
