@@ -4,3 +4,4 @@ pub mod OrderLemmas
 pub mod Rows
 pub mod ShelfLemmas
 pub mod SlotLemmas
+pub mod WantLemmas

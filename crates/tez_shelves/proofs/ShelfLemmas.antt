@@ -1,13 +1,14 @@
 -- Shelves by their slots and their index.
 --     shelf_at, shelf_none       what lies on the shelf of an attempt, by its slot
---     put_held, put_shelf        after an attempt's pieces are put
+--     held_at, named_at          an attempt's slot holds something of it, and a slot that holds something is named
+--     put_shelf                  after an attempt's pieces are put
 --     drop_held, drop_shelf      after an attempt is dropped
---     kept_held, kept_shelf      after a test of what is held
-use Rattle.std.proofs.Common.{◌≡◌, ℕ, Bool, true, false, cond, List, refl, sym, ap, ◌∙◌, subst, Option, Some, None, is_some, IfSome, IsSomeAnd, ◌⊎◌, inl, inr, Result, Ok, Err, is_ok, OnOk, true≢false}
+--     kept_shelf                 after a test of what is held
+use Rattle.std.proofs.Common.{◌≡◌, ◌≢◌, ℕ, eqb, Bool, true, false, cond, List, refl, sym, ap, ◌∙◌, subst, Option, Some, None, is_some, IfSome, IsSomeAnd, ◌⊎◌, inl, inr, Result, Ok, Err, is_ok, OnOk, true≢false}
 use denote.Ref.{Bor}
 use Rattle.std.specs.Option.{option_map, option_copied}
 use Rattle.std.specs.Map.{lookup}
-use Rattle.std.proofs.lemmas.Option.{same_Some}
+use Rattle.std.proofs.lemmas.Bool.Decides.{eqb_tells}
 use Rattle.std.proofs.lemmas.Map.Made.{lookup-map_values}
 use Rattle.slab.specs.Slab.{Slab, get}
 use Rattle.tez_ids.specs.declared.AttemptId.{AttemptId}
@@ -51,7 +52,15 @@ if_some P (Some x) h = h x refl
 
 -- an attempt's slot holds something of this attempt
 pub held_at : (slots : Slab Shelved) (entries : List (AttemptId × ℕ)) (a : AttemptId) (k : ℕ) → AreHeld slots entries → lookup (same_attempt a) entries ≡ Some k → (s : Shelved) × (get slots k ≡ Some s) × (s.attempt ≡ a)
-held_at slots entries a k h e = opened (λ s. s.attempt ≡ a) (get slots k) (subst (λ o. IfSome o (λ j. IsSomeAnd (get slots j) (λ s. s.attempt ≡ a))) e (h a))
+held_at slots entries a k h e = opened (λ s. s.attempt ≡ a) (get slots k) (subst (λ o. IfSome o (λ j. IsSomeAnd (get slots j) (λ s. s.attempt ≡ a))) e (h.own a))
+
+-- a slot that holds something is that of its attempt
+pub named_at : (slots : Slab Shelved) (entries : List (AttemptId × ℕ)) (k : ℕ) (s : Shelved) → AreHeld slots entries → get slots k ≡ Some s → lookup (same_attempt s.attempt) entries ≡ Some k
+named_at slots entries k s h e = subst (λ o. IfSome o (λ t. lookup (same_attempt t.attempt) entries ≡ Some k)) e (h.named k)
+
+-- no other slot holds something of an attempt
+only_slot : (slots : Slab Shelved) (entries : List (AttemptId × ℕ)) (a : AttemptId) (k : ℕ) (s : Shelved) → AreHeld slots entries → get slots k ≡ Some s → same_attempt a s.attempt ≡ true → lookup (same_attempt a) entries ≡ Some k
+only_slot slots entries a k s h e here = ap (λ b. lookup (same_attempt b) entries) (same_attempt-true a s.attempt here) ∙ named_at slots entries k s h e
 
 -- attempts in one slot are one
 one_slot : (slots : Slab Shelved) (entries : List (AttemptId × ℕ)) (a b : AttemptId) (k : ℕ) → AreHeld slots entries → lookup (same_attempt a) entries ≡ Some k → lookup (same_attempt b) entries ≡ Some k → same_attempt a b ≡ true
@@ -84,11 +93,6 @@ module _ (old new : Slab Shelved) (was now : List (AttemptId × ℕ)) (a : Attem
 
   -- the attempt a has s in slot k, and all others are as before
   module _ (k : ℕ) (s : Shelved) (own : s.attempt ≡ a) (there : get new k ≡ Some s) (placed : (b : AttemptId) → same_attempt a b ≡ true → lookup (same_attempt b) now ≡ Some k) where
-    pub put_held : AreHeld new now
-    put_held b = if_some (λ j. IsSomeAnd (get new j) (λ t. t.attempt ≡ b)) (lookup (same_attempt b) now) (λ j e. cases (same_attempt a b)
-        (λ here. subst (λ i. IsSomeAnd (get new i) (λ t. t.attempt ≡ b)) (same_Some k j (sym (placed b here) ∙ e)) (subst (λ o. IsSomeAnd o (λ t. t.attempt ≡ b)) (sym there) (own ∙ same_attempt-true a b here)))
-        (λ other. other_held b j other e))
-
     pub put_shelf : (b : AttemptId) → shelf b (shelved new now) ≡ cond (same_attempt a b) (Some (s.node, s.pieces)) (shelf b (shelved old was))
     put_shelf b = cases (same_attempt a b)
         (λ here. shelf_at new now b k s (placed b here) there ∙ ap (λ t. cond t (Some (s.node, s.pieces)) (shelf b (shelved old was))) (sym here))
@@ -96,10 +100,20 @@ module _ (old new : Slab Shelved) (was now : List (AttemptId × ℕ)) (a : Attem
 
   -- the attempt a has nothing, and all others are as before
   module _ (gone : (b : AttemptId) → same_attempt a b ≡ true → lookup (same_attempt b) now ≡ None) where
-    pub drop_held : AreHeld new now
-    drop_held b = if_some (λ j. IsSomeAnd (get new j) (λ t. t.attempt ≡ b)) (lookup (same_attempt b) now) (λ j e. cases (same_attempt a b)
+    drop_own : (b : AttemptId) → IfSome (lookup (same_attempt b) now) (λ j. IsSomeAnd (get new j) (λ t. t.attempt ≡ b))
+    drop_own b = if_some (λ j. IsSomeAnd (get new j) (λ t. t.attempt ≡ b)) (lookup (same_attempt b) now) (λ j e. cases (same_attempt a b)
         (λ here. let none = gone b here in cc)
         (λ other. other_held b j other e))
+
+    -- where what a slot holds is as before, and the attempt's slot is empty
+    pub drop_held : ((j : ℕ) (t : Shelved) → get new j ≡ Some t → get old j ≡ Some t) → ((j : ℕ) → lookup (same_attempt a) was ≡ Some j → get new j ≡ None) → AreHeld new now
+    drop_held left empty = record {
+      own = drop_own;
+      named = λ j. if_some (λ t. lookup (same_attempt t.attempt) now ≡ Some j) (get new j) (λ t e.
+          cases (same_attempt a t.attempt)
+          (λ here. let none = empty j (only_slot old was a j t whole (left j t e) here) in cc)
+          (λ other. rest t.attempt other ∙ named_at old was j t whole (left j t e)));
+    }
 
     pub drop_shelf : (b : AttemptId) → shelf b (shelved new now) ≡ cond (same_attempt a b) None (shelf b (shelved old was))
     drop_shelf b = cases (same_attempt a b)
@@ -113,9 +127,16 @@ not_empty slots entries b j k whole none e same = let it = held_at slots entries
 pub not_its : (slots : Slab Shelved) (entries : List (AttemptId × ℕ)) (a b : AttemptId) (j k : ℕ) → AreHeld slots entries → lookup (same_attempt a) entries ≡ Some k → same_attempt a b ≡ false → lookup (same_attempt b) entries ≡ Some j → j ≡ k → ⊥
 not_its slots entries a b j k whole its other e same = both (one_slot slots entries a b k whole its (e ∙ ap Some same)) other
 
+-- what slots hold after one is emptied was there before
+pub left_but : (old new : Slab Shelved) (k : ℕ) → get new k ≡ None → ((j : ℕ) → j ≢ k → get new j ≡ get old j) → (j : ℕ) (t : Shelved) → get new j ≡ Some t → get old j ≡ Some t
+left_but old new k none others j t e = by (eqb_tells j k) where
+  by : ((eqb j k ≡ true) × (j ≡ k)) ⊎ ((eqb j k ≡ false) × (j ≢ k)) → get old j ≡ Some t
+  by (inl (test, same)) = let there = ap (get new) (sym same) ∙ e in cc (none, there)
+  by (inr (test, differ)) = sym (others j differ) ∙ e
+
 -- a test of what is held, and of the index by what is left
 module _ (old new : Slab Shelved) (was now : List (AttemptId × ℕ)) (p : Shelved → Bool) (q : AttemptId → NodeId × List (EdgeId × ℕ × List (List ℕ)) → Bool)
-    (tests : (s : Shelved) → p s ≡ q s.attempt (s.node, s.pieces)) (whole : AreHeld old was)
+    (tests : (k : ℕ) (s : Shelved) → get old k ≡ Some s → p s ≡ q s.attempt (s.node, s.pieces)) (whole : AreHeld old was)
     (slots : (k : ℕ) → get new k ≡ kept_if p (get old k))
     (index : (b : AttemptId) → lookup (same_attempt b) now ≡ kept_if (λ k. is_some (get new k)) (lookup (same_attempt b) was)) where
   abbrev Left : AttemptId → Type 0
@@ -132,7 +153,7 @@ module _ (old new : Slab Shelved) (was now : List (AttemptId × ℕ)) (p : Shelv
         let it = held_at old was b k whole e in
         let s = it.0 in
         let content = ap (kept_if (q b)) (shelf_at old was b k s e it.1) in
-        let test : p s ≡ q b (s.node, s.pieces) = tests s ∙ ap (λ c. q c (s.node, s.pieces)) it.2 in
+        let test : p s ≡ q b (s.node, s.pieces) = tests k s it.1 ∙ ap (λ c. q c (s.node, s.pieces)) it.2 in
         let slot : get new k ≡ cond (p s) (Some s) None = slots k ∙ ap (kept_if p) it.1 in
         let place : lookup (same_attempt b) now ≡ cond (is_some (get new k)) (Some k) None = index b ∙ ap (kept_if (λ j. is_some (get new j))) e in
         cases (p s)
@@ -142,12 +163,6 @@ module _ (old new : Slab Shelved) (was now : List (AttemptId × ℕ)) (p : Shelv
         (λ fails.
         let goes : get new k ≡ None = slot ∙ ap (λ t. cond t (Some s) None) fails in
         inr (place ∙ ap (λ o. cond (is_some o) (Some k) None) goes, content ∙ ap (λ t. cond t (Some (s.node, s.pieces)) None) (sym test ∙ fails)))
-
-  pub kept_held : AreHeld new now
-  kept_held b = by (left_or_gone b) where
-    by : Left b ⊎ Gone b → IfSome (lookup (same_attempt b) now) (λ k. IsSomeAnd (get new k) (λ s. s.attempt ≡ b))
-    by (inl x) = subst (λ o. IfSome o (λ k. IsSomeAnd (get new k) (λ s. s.attempt ≡ b))) (sym x.2) (subst (λ o. IsSomeAnd o (λ s. s.attempt ≡ b)) (sym x.3) x.4)
-    by (inr x) = subst (λ o. IfSome o (λ k. IsSomeAnd (get new k) (λ s. s.attempt ≡ b))) (sym x.0) tt
 
   pub kept_shelf : (b : AttemptId) → shelf b (shelved new now) ≡ kept_if (q b) (shelf b (shelved old was))
   kept_shelf b = by (left_or_gone b) where

@@ -6,9 +6,9 @@ ghost use Rattle.tez_ids.specs.declared.AttemptId.{AttemptId};
 ghost use Rattle.tez_ids.specs.Same.{same_attempt};
 ghost use Rattle.tez_shelves.specs.Shelf.{kept_if, shelf, piece_of, bytes_of, same_node};
 
-use crate::index::{add_place, drop_place, keep_placed, place_of};
+use crate::index::{add_place, drop_place, keep_placed, place_of, want_only};
 use crate::pieces::{Piece, Pieces};
-use crate::slots::{Shelved, keep_among, keep_elsewhere, replace};
+use crate::slots::{Shelved, keep_elsewhere, keep_wanted, replace};
 use slab::Slab;
 use std::alloc::Global;
 use std::collections::BTreeMap;
@@ -63,6 +63,7 @@ impl Shelves {
                     attempt: a,
                     node: n,
                     pieces: ps,
+                    wanted: false,
                 },
             ),
             None => {
@@ -77,6 +78,7 @@ impl Shelves {
                     attempt: a,
                     node: n,
                     pieces: ps,
+                    wanted: false,
                 });
             }
         }
@@ -127,12 +129,13 @@ impl Shelves {
         }
     }
 
-    /// Takes away all pieces but those of these attempts. Takes no memory. It looks at each of
-    /// these attempts for each that has pieces.
+    /// Takes away all pieces but those of these attempts. Takes no memory. Linear in what lies on all
+    /// shelves, and for each of these attempts logarithmic in the number of attempts that have pieces.
     pub fn keep_only(&mut self, attempts: &[AttemptId])
         ensures { (b : AttemptId) → shelf b self.new ≡ (if list_any (same_attempt b) attempts.now then shelf b self.old else None) }
     {
-        keep_among(&mut self.slots, attempts);
+        want_only(&mut self.slots, &self.places, attempts);
+        keep_wanted(&mut self.slots);
         keep_placed(&mut self.places, &self.slots);
     }
 }

@@ -5,4 +5,4 @@ use Rattle.tez_shelves.proofs.SlotLemmas.{slots_kept}
 use Rattle.tez_shelves.proofs.slots.keep_elsewhere.Goals as goal
 
 pub returns : goal.returns
-returns c = slots_kept _ (λ (s : Shelved). not (same_node s.node c.args.n)) _ (λ key old keep new next called. search rules) _ _ _ c.retain.ensures.retained
+returns c = slots_kept _ _ (λ (s : Shelved). not (same_node s.node c.args.n)) (λ key old keep new next called. search rules) _ _ _ c.retain.ensures.retained

@@ -6,5 +6,5 @@ use Rattle.tez_shelves.proofs.shelves.Shelves.lose_node.Goals as goal
 
 pub returns : goal.returns
 returns c = λ b.
-    kept_shelf c.self.inside.slots c.keep_elsewhere.new.slots c.self.inside.places.entries c.keep_placed.new.places.entries (λ (s : Shelved). not (same_node s.node c.args.n)) (λ a at. not (same_node at.0 c.args.n)) (λ s. refl) c.self.invariant c.keep_elsewhere.ensures c.keep_placed.ensures b
+    kept_shelf c.self.inside.slots c.keep_elsewhere.new.slots c.self.inside.places.entries c.keep_placed.new.places.entries (λ (s : Shelved). not (same_node s.node c.args.n)) (λ a at. not (same_node at.0 c.args.n)) (λ k s e. refl) c.self.invariant c.keep_elsewhere.ensures c.keep_placed.ensures b
     ∙ ap (λ v. kept_if (λ at. not (same_node at.0 c.args.n)) (shelf b v)) c.self.view_is

@@ -1,4 +1,4 @@
-use Rattle.std.proofs.Common.{◌≡◌, ◌∙◌, ℕ, true, cond, None, Some, ap, sym, refl, not, is_ok}
+use Rattle.std.proofs.Common.{◌≡◌, ◌∙◌, ℕ, true, false, cond, None, Some, ap, sym, refl, not, is_ok}
 use Rattle.tez_lists.proofs.Tables.{if_same, if_other}
 use Rattle.std.specs.Map.{lookup}
 use Rattle.slab.specs.Slab.{get}
@@ -17,9 +17,9 @@ returns-clause-there c = elim c.match-place_of.branch [
       ap (shelf b) w.self-is
       ∙ put_shelf c.self.inside.slots w.replace.new.slots c.self.inside.places.entries c.self.inside.places.entries c.args.a c.self.invariant
       (λ d other. refl)
-      (λ d j other e. w.replace.ensures j ∙ if_other j w.in-Some.k (Some record { attempt = c.args.a; node = c.args.n; pieces = c.args.ps }) (get c.self.inside.slots j) (not_its c.self.inside.slots c.self.inside.places.entries c.args.a d j w.in-Some.k c.self.invariant its other e))
-      w.in-Some.k record { attempt = c.args.a; node = c.args.n; pieces = c.args.ps } refl
-      (w.replace.ensures w.in-Some.k ∙ if_same w.in-Some.k w.in-Some.k (Some record { attempt = c.args.a; node = c.args.n; pieces = c.args.ps }) (get c.self.inside.slots w.in-Some.k) refl)
+      (λ d j other e. w.replace.ensures j ∙ if_other j w.in-Some.k (Some record { attempt = c.args.a; node = c.args.n; pieces = c.args.ps; wanted = false }) (get c.self.inside.slots j) (not_its c.self.inside.slots c.self.inside.places.entries c.args.a d j w.in-Some.k c.self.invariant its other e))
+      w.in-Some.k record { attempt = c.args.a; node = c.args.n; pieces = c.args.ps; wanted = false } refl
+      (w.replace.ensures w.in-Some.k ∙ if_same w.in-Some.k w.in-Some.k (Some record { attempt = c.args.a; node = c.args.n; pieces = c.args.ps; wanted = false }) (get c.self.inside.slots w.in-Some.k) refl)
       (λ d here. ap (λ x. lookup (same_attempt x) c.self.inside.places.entries) (sym (same_attempt-true c.args.a d here)) ∙ its) b
       ∙ ap (λ v. cond (same_attempt c.args.a b) (Some (c.args.n, c.args.ps)) (shelf b v)) c.self.view_is
   | in-None+else-is_err+else-is_err-2 w ↦ λ b.
@@ -32,7 +32,7 @@ returns-clause-there c = elim c.match-place_of.branch [
       ∙ put_shelf c.self.inside.slots w.insert_reserved.new.self c.self.inside.places.entries w.add_place.new.places.entries c.args.a c.self.invariant
       (λ d other. placed d ∙ ap (λ t. cond t (Some w.vacant_key-k.result) (lookup (same_attempt d) c.self.inside.places.entries)) other)
       (λ d j other e. w.insert_reserved.ensures.updates.others j (not_empty c.self.inside.slots c.self.inside.places.entries d j w.insert_reserved.result c.self.invariant vacant e) ∙ same j)
-      w.insert_reserved.result record { attempt = c.args.a; node = c.args.n; pieces = c.args.ps } refl
+      w.insert_reserved.result record { attempt = c.args.a; node = c.args.n; pieces = c.args.ps; wanted = false } refl
       w.insert_reserved.ensures.updates.changed
       (λ d here. placed d ∙ ap (λ t. cond t (Some w.vacant_key-k.result) (lookup (same_attempt d) c.self.inside.places.entries)) here ∙ ap Some (sym key)) b
       ∙ ap (λ v. cond (same_attempt c.args.a b) (Some (c.args.n, c.args.ps)) (shelf b v)) c.self.view_is
