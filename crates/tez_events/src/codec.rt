@@ -22,6 +22,13 @@ const COMMIT_STARTED: u8 = 6;
 
 const FINISHED: u8 = 7;
 
+const VERSION: u8 = 8;
+
+const SINK_PUBLISHED: u8 = 9;
+
+// The one version that a record tells.
+const SECOND: u8 = 2;
+
 /// The body of a record. It begins with a byte that tells the kind.
 pub fn encode(alloc: Global, r: &JournalRecord) -> Result<Vec<u8>, AllocError>
     requires { HasBody r.now }
@@ -44,6 +51,10 @@ pub fn encode(alloc: Global, r: &JournalRecord) -> Result<Vec<u8>, AllocError>
         }
         JournalRecord::CommitStarted { sums } => commit_bytes(alloc, sums.as_slice()),
         JournalRecord::Finished => tagged(alloc, FINISHED, &[]),
+        JournalRecord::Version => tagged(alloc, VERSION, &[SECOND]),
+        JournalRecord::SinkPublished { vertex } => {
+            tagged(alloc, SINK_PUBLISHED, &vertex.0.to_le_bytes())
+        }
     }
 }
 
@@ -119,6 +130,8 @@ pub fn decode(alloc: Global, bytes: &[u8]) -> Result<Option<JournalRecord>, Allo
         ATTEMPT_FAILED => Ok(attempt_failed(rest)),
         COMMIT_STARTED => commit_started(alloc, rest),
         FINISHED => Ok(finished(rest)),
+        VERSION => Ok(version(rest)),
+        SINK_PUBLISHED => Ok(sink_published(rest)),
         _ => Ok(None),
     }
 }
@@ -226,4 +239,32 @@ fn finished(rest: &[u8]) -> Option<JournalRecord>
         return None;
     }
     Some(JournalRecord::Finished)
+}
+
+fn version(rest: &[u8]) -> Option<JournalRecord>
+    ensures { Reads (8 ∷ rest.now) result }
+{
+    if rest.len() != 1 || rest[0] != SECOND {
+        return None;
+    }
+    Some(JournalRecord::Version)
+}
+
+fn sink_published(rest: &[u8]) -> Option<JournalRecord>
+    ensures { Reads (9 ∷ rest.now) result }
+{
+    if rest.len() != 2 {
+        return None;
+    }
+    Some(JournalRecord::SinkPublished {
+        vertex: VertexId(u16_at(rest, 0)),
+    })
+}
+
+/// The body of the record that a sink is published. Takes no memory.
+pub fn sink_published_body(vertex: VertexId) -> [u8; 3]
+    ensures { result ≡ body (JournalRecord.SinkPublished vertex) }
+{
+    let [low, high] = vertex.0.to_le_bytes();
+    [SINK_PUBLISHED, low, high]
 }

@@ -7,7 +7,7 @@ use Rattle.std.proofs.Math.Seq.{take-append_seam}
 use Rattle.std.proofs.lemmas.Nat.{from_le_bytes-to_le_bytes_4}
 use Rattle.std.proofs.lemmas.List.{append_cancel_left, take-append-drop, length-take}
 use Rattle.tez_events.specs.declared.JournalRecord.{JournalRecord}
-use Rattle.tez_events.specs.declared.JournalRecord.TheVariants.{Submitted, Opened, Configured, TaskSucceeded, AttemptFailed, CommitStarted, Finished}
+use Rattle.tez_events.specs.declared.JournalRecord.TheVariants.{Submitted, Opened, Configured, TaskSucceeded, AttemptFailed, CommitStarted, Finished, Version, SinkPublished}
 use Rattle.tez_events.specs.Body.{body, FitsRecord}
 use Rattle.tez_events.proofs.Pairs.{length-pairs}
 use Rattle.tez_journal.specs.Text.{framed, entry}
@@ -21,6 +21,8 @@ body_short (TaskSucceeded a) fits = omega arith
 body_short (AttemptFailed a) fits = omega arith
 body_short (CommitStarted sums) fits = let few = fits.0 in let long = length-pairs sums in omega arith
 body_short Finished fits = omega arith
+body_short Version fits = omega arith
+body_short (SinkPublished v) fits = omega arith
 
 words : (m n : ℕ) → m < 2 ^ 32 → n < 2 ^ 32 → to_le_bytes w32 m ≡ to_le_bytes w32 n → m ≡ n
 words m n a b same = sym (from_le_bytes-to_le_bytes_4 m a) ∙ ap (from_le_bytes w32) same ∙ from_le_bytes-to_le_bytes_4 n b
