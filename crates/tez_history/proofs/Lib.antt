@@ -1,3 +1,4 @@
 mod Driving
 mod Rows
 mod Mutated
+mod Found

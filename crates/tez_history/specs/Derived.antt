@@ -1,6 +1,7 @@
 -- What follows from a history for a plan: the tasks, the inputs of attempts, and what the managers see and say.
-use Rattle.std.specs.Prelude.{ℕ, ◌*◌, max, Bool, true, false, not, ◌&&◌, ◌==◌, nat_lt, if◌then◌else◌, List, [], ◌∷◌, map, length, Option, Some, None, is_some, is_none, unwrap_or}
+use Rattle.std.specs.Prelude.{ℕ, ◌*◌, max, Bool, true, false, not, ◌&&◌, ◌==◌, nat_lt, if◌then◌else◌, List, [], ◌∷◌, map, length, Option, Some, None, is_some, is_none, unwrap_or, slice_get}
 use Rattle.std.specs.List.{filter, list_any, list_all, filter_map, flat_map, sum_by, count_by}
+use Rattle.std.specs.Option.{option_map_or}
 use Rattle.tez_ids.specs.declared.TaskId.{TaskId}
 use Rattle.tez_ids.specs.declared.AttemptId.{AttemptId}
 use Rattle.tez_ids.specs.Same.{task, attempt, same_task}
@@ -16,9 +17,9 @@ use Rattle.tez_vman.specs.declared.seen.Seen.{Seen}
 use Rattle.tez_vman.specs.declared.seen.Config.{Config}
 use Rattle.tez_vman.specs.Rules.{configures as configures_by, schedules, config as shape}
 use Rattle.tez_events.specs.declared.Entry.{Entry}
-use Rattle.tez_events.specs.declared.Entry.TheVariants.{Opened, Over, Stands, Carried, Kept, Configured, Queued, Placed, Fetched, ReadError, InputFailed, Ordered, Succeeded, Made, Failed, Killed, NodeLost, OutputLost, Rerun, Stopped, Ready, Published, CommitStarted, Finished, Purged}
-use Rattle.tez_history.specs.Shape.{Edge, numbers_below, vertices, edges_to, primary_edges, has_edge_out, rule, places}
-use Rattle.tez_history.specs.History.{Past, Stage, Unknown, InQueue, Waits, Runs, Ended, Location, Nowhere, On, InQuestion, config, live, stage, winner, epoch, attempts, made_bytes, is_fetched, is_scheduled, holder, location}
+use Rattle.tez_events.specs.declared.Entry.TheVariants.{Opened, Over, Stands, Carried, Kept, Configured, Queued, Placed, Fetched, ReadError, InputFailed, Ordered, Succeeded, Made, Failed, Killed, NodeLost, OutputLost, Rerun, Stopped, Committing, Ready, Asked, Settled, Published, CommitStarted, Finished, Purged}
+use Rattle.tez_history.specs.Shape.{Edge, numbers_below, vertices, sinks, edges_to, primary_edges, has_edge_out, rule, places}
+use Rattle.tez_history.specs.History.{Past, Stage, Unknown, InQueue, Waits, Runs, Ended, Location, Nowhere, On, InQuestion, config, live, stage, winner, epoch, attempts, made_bytes, is_fetched, is_scheduled, holder, location, recorded}
 
 -- the tasks and base of a vertex: those configured, and before that those of the plan
 abbrev pub shape_of : Dag → ℕ → Past → Config
@@ -195,7 +196,10 @@ starts_epoch (NodeLost slot l) = false
 starts_epoch (OutputLost w) = false
 starts_epoch (Rerun w) = false
 starts_epoch (Stopped cause) = false
+starts_epoch (Committing n) = false
 starts_epoch (Ready v) = false
+starts_epoch (Asked v) = false
+starts_epoch (Settled v) = false
 starts_epoch (Published v) = false
 starts_epoch CommitStarted = false
 starts_epoch Finished = false
@@ -243,3 +247,12 @@ is_on_node g c past slot a = has_edge_out g a.task.vertex.0 && is_on_slot slot (
 -- some queued attempt has a lesser depth
 abbrev pub is_shallower_queued : Dag → Past → ℕ → Bool
 is_shallower_queued g past d = list_any (λ a. nat_lt (depth g a.task.vertex.0) d) (queued_attempts g past)
+
+-- ---- sinks
+
+-- the sink that the journal records next, None once each is recorded
+abbrev pub next_sink : Dag → Past → Option ℕ
+next_sink g past = slice_get (sinks g) (recorded past)
+
+abbrev pub is_next : Dag → Past → ℕ → Bool
+is_next g past v = option_map_or (λ w. w == v) (next_sink g past) false

@@ -6,7 +6,7 @@ use Rattle.tez_ids.specs.declared.TaskId.{TaskId}
 use Rattle.tez_ids.specs.declared.AttemptId.{AttemptId}
 use Rattle.tez_events.specs.declared.KillCause.TheVariants.{Preempt}
 use Rattle.tez_events.specs.declared.Entry.{Entry}
-use Rattle.tez_events.specs.declared.Entry.TheVariants.{Opened, Over, Stands, Carried, Kept, Configured, Queued, Placed, Fetched, Ordered, Succeeded, Made, Failed, Killed, NodeLost, OutputLost, Rerun, Stopped, Ready, Published, CommitStarted, Finished, Purged}
+use Rattle.tez_events.specs.declared.Entry.TheVariants.{Opened, Over, Stands, Carried, Kept, Configured, Queued, Placed, Fetched, Ordered, Succeeded, Made, Failed, Killed, NodeLost, OutputLost, Rerun, Stopped, Committing, Ready, Asked, Settled, Published, CommitStarted, Finished, Purged}
 use Rattle.tez_ids.specs.Same.{same_task, same_attempt}
 use Rattle.tez_conf.specs.declared.values.ConfValues.{ConfValues}
 use Rattle.tez_vman.specs.declared.seen.Config.{Config}
@@ -250,18 +250,37 @@ is_readied v (Rerun _ ∷ past) = false
 is_readied v (Opened _ ∷ past) = false
 is_readied v (_ ∷ past) = is_readied v past
 
--- whether the commit has started
+-- whether the commit has started, or the open found it so
 abbrev pub is_committing : Past → Bool
 is_committing [] = false
 is_committing (CommitStarted ∷ past) = true
+is_committing (Committing n ∷ past) = true
 is_committing (Opened _ ∷ past) = false
 is_committing (Stopped _ ∷ past) = false
 is_committing (_ ∷ past) = is_committing past
 
-abbrev pub is_published : ℕ → Past → Bool
-is_published v [] = false
-is_published v (Published w ∷ past) = (w.0 == v) || is_published v past
-is_published v (_ ∷ past) = is_published v past
+-- whether the last open found a commit that had started
+abbrev pub is_found : Past → Bool
+is_found [] = false
+is_found (Committing n ∷ past) = true
+is_found (Opened _ ∷ past) = false
+is_found (Stopped _ ∷ past) = false
+is_found (_ ∷ past) = is_found past
+
+-- how many sinks the journal is known to have recorded: of all sinks the first ones, since they are recorded in their order
+abbrev pub recorded : Past → ℕ
+recorded [] = 0
+recorded (Committing n ∷ past) = n
+recorded (Settled v ∷ past) = suc (recorded past)
+recorded (Published v ∷ past) = suc (recorded past)
+recorded (_ ∷ past) = recorded past
+
+-- whether the store was asked of a sink since the last open, and did not have it
+abbrev pub was_asked : ℕ → Past → Bool
+was_asked v [] = false
+was_asked v (Asked w ∷ past) = (w.0 == v) || was_asked v past
+was_asked v (Opened _ ∷ past) = false
+was_asked v (_ ∷ past) = was_asked v past
 
 -- whether the journal says that all is done
 abbrev pub is_finished : Past → Bool
