@@ -4,3 +4,5 @@ mod StepLemmas
 mod RuleLemmas
 mod ListLemmas
 mod ReadLemmas
+mod SinkLemmas
+mod Worked

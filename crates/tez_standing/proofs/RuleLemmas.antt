@@ -1,14 +1,13 @@
 -- What the table tells is what the records tell, and settings fit the plan.
-use Rattle.std.specs.Prelude.{◌≡◌, ◌≢◌, ◌⊎◌, ℕ, zero, suc, ◌+◌, ◌*◌, ◌<◌, ◌≤◌, ◌==◌, ◌&&◌, not, nat_lt, nat_le, Bool, true, false, if◌then◌else◌, List, [], ◌∷◌, ◌++◌, map, take, length, Option, Some, None, is_none, is_some, refl, slice_get, IsTrue}
+use Rattle.std.specs.Prelude.{◌≡◌, ◌⊎◌, ℕ, ◌*◌, ◌<◌, ◌≤◌, ◌==◌, ◌&&◌, not, nat_lt, nat_le, Bool, true, false, if◌then◌else◌, List, [], ◌∷◌, ◌++◌, map, take, length, Option, Some, None, is_none, is_some, refl}
 use Rattle.std.specs.List.{find, list_all}
 use Rattle.std.specs.Option.{option_or, option_map, option_map_or, option_and_then}
-use Rattle.std.proofs.Common.{ap, sym, ◌∙◌, subst, arith, zero-add, inl, inr, true≢false}
+use Rattle.std.proofs.Common.{ap, sym, ◌∙◌, subst, arith, inl, inr, true≢false}
 use Rattle.std.proofs.Math.Nat.{le-mul_of_pos_right}
 use Rattle.std.proofs.lemmas.Bool.{cases_lt}
 use Rattle.std.proofs.lemmas.Bool.Decides.{nat_tests}
 use Rattle.std.proofs.lemmas.Option.{same_Some}
 use Rattle.std.proofs.lemmas.List.Folds.{list_all-map}
-use Rattle.tez_ids.specs.declared.VertexId.{VertexId}
 use Rattle.tez_ids.specs.Same.{task}
 use Rattle.tez_lists.specs.Numbers.{numbers_from}
 use Rattle.tez_shrink.specs.Formulas.{tasks_of as tasks_for}
@@ -18,11 +17,11 @@ use Rattle.tez_plan.specs.Dag.{Dag, from, to, tasks_of, is_one_to_one}
 use Rattle.tez_plan.specs.Faults.{IsValid, partitions_differ}
 use Rattle.tez_plan.proofs.CheckLemmas.{valid_parts}
 use Rattle.tez_events.specs.declared.JournalRecord.{JournalRecord}
-use Rattle.tez_events.specs.declared.JournalRecord.TheVariants.{Submitted, Opened, Configured, TaskSucceeded, AttemptFailed, CommitStarted, Finished}
+use Rattle.tez_events.specs.declared.JournalRecord.TheVariants.{Submitted, Opened, Configured, TaskSucceeded, AttemptFailed, CommitStarted, Finished, Version, SinkPublished}
 use Rattle.tez_standing.specs.declared.state.Setting.{Setting}
 use Rattle.tez_standing.specs.Standing.{sets, setting, winner, has_winners, is_complete, known, has_source, feeder, takes_parts, fits_feeder, fits_vertex, may_configure, is_open, fits, may_follow, sinks}
 use Rattle.tez_standing.specs.Progress.{row, vertex_state, progress, has_won, is_done, setting_in, known_in, IsSized}
-use Rattle.tez_standing.proofs.TableLemmas.{get_there, none_past, take_map, all_same, tells, same_or_not, Found, found}
+use Rattle.tez_standing.proofs.TableLemmas.{get_there, none_past, take_map, all_same, tells, Found, found}
 use Rattle.tez_standing.proofs.RecordLemmas.{both_left, both_right, set_more}
 
 -- ---- the table tells what the records tell
@@ -69,6 +68,8 @@ fits_same p rs (AttemptFailed a) sized =
     ap (λ o. is_open (known p rs) && (a.epoch.0 == (known p rs).epoch && option_map_or (λ s. nat_lt a.task.index s.tasks) o false)) (setting_same p rs sized a.task.vertex.0)
 fits_same p rs (CommitStarted sums) sized = ap (λ b. is_open (known p rs) && (length sums == sinks p && b)) (complete_same p rs sized)
 fits_same p rs Finished sized = refl
+fits_same p rs Version sized = refl
+fits_same p rs (SinkPublished w) sized = refl
 
 -- ---- a setting gives no more tasks than the plan
 
@@ -167,6 +168,8 @@ sized_more p rs (TaskSucceeded a) valid sized h = quiet p rs (TaskSucceeded a) s
 sized_more p rs (AttemptFailed a) valid sized h = quiet p rs (AttemptFailed a) sized (λ v. refl)
 sized_more p rs (CommitStarted sums) valid sized h = quiet p rs (CommitStarted sums) sized (λ v. refl)
 sized_more p rs Finished valid sized h = quiet p rs Finished sized (λ v. refl)
+sized_more p rs Version valid sized h = quiet p rs Version sized (λ v. refl)
+sized_more p rs (SinkPublished w) valid sized h = quiet p rs (SinkPublished w) sized (λ v. refl)
 
 pub sized_first : (p : Dag) → IsSized p []
 sized_first p v s e = cc

@@ -3,7 +3,7 @@
 --     after s r          the table with one record more
 --     known_in s         what it tells of the records
 --     listed s           the standing that it tells
-use Rattle.std.specs.Prelude.{◌≡◌, ℕ, ◌+◌, ◌-◌, ◌<◌, ◌≤◌, ◌^◌, min, Bool, true, false, List, [], map, length, take, Option, Some, None, is_some, slice_get, slice_set}
+use Rattle.std.specs.Prelude.{◌≡◌, ⊤, ℕ, ◌+◌, ◌-◌, ◌<◌, ◌≤◌, ◌^◌, min, Bool, true, false, List, map, length, take, Option, Some, None, is_some, slice_get}
 use Rattle.std.specs.List.{flat_map, list_all}
 use Rattle.std.specs.Option.{option_map_or, option_and_then}
 use Rattle.tez_ids.specs.declared.VertexId.{VertexId}
@@ -13,13 +13,13 @@ use Rattle.tez_ids.specs.Same.{task}
 use Rattle.tez_lists.specs.Numbers.{numbers_from}
 use Rattle.tez_plan.specs.Dag.{Dag, vertex, tasks_of}
 use Rattle.tez_events.specs.declared.JournalRecord.{JournalRecord}
-use Rattle.tez_events.specs.declared.JournalRecord.TheVariants.{Submitted, Opened, Configured, TaskSucceeded, AttemptFailed, CommitStarted, Finished}
+use Rattle.tez_events.specs.declared.JournalRecord.TheVariants.{Submitted, Opened, Configured, TaskSucceeded, AttemptFailed, CommitStarted, Finished, Version, SinkPublished}
 use Rattle.tez_standing.specs.declared.state.Setting.{Setting}
 use Rattle.tez_standing.specs.declared.state.Phase.{Phase}
 use Rattle.tez_standing.specs.declared.state.Phase.TheVariants as phases
 use Rattle.tez_standing.specs.declared.state.Standing.{Standing}
 use Rattle.tez_standing.specs.declared.rows.TaskRow.{TaskRow}
-use Rattle.tez_standing.specs.Standing.{Known, begun, epoch, setting, winner, failures, phase, setting_row, winner_row, failures_row, IsLegalTo}
+use Rattle.tez_standing.specs.Standing.{Known, begun, epoch, version, setting, winner, failures, phase, setting_row, winner_row, failures_row, IsLegalTo}
 use Rattle.tez_standing.specs.Table.{VertexState, ProgressState, change}
 
 abbrev pub row : List JournalRecord → ℕ → ℕ → TaskRow
@@ -29,7 +29,7 @@ abbrev pub vertex_state : Dag → List JournalRecord → ℕ → VertexState
 vertex_state p rs v = record { vertex = vertex v; setting = setting rs v; tasks = map (row rs v) (numbers_from 0 (tasks_of p v)) }
 
 abbrev pub progress : Dag → List JournalRecord → ProgressState
-progress p rs = record { begun = begun rs; epoch = epoch rs; phase = phase rs; vertices = map (vertex_state p rs) (numbers_from 0 (length p.vertices)) }
+progress p rs = record { begun = begun rs; epoch = epoch rs; version = version rs; phase = phase rs; vertices = map (vertex_state p rs) (numbers_from 0 (length p.vertices)) }
 
 -- a task of which no record tells
 abbrev pub new_row : ℕ → ℕ → TaskRow
@@ -50,7 +50,7 @@ abbrev pub setting_in : List VertexState → ℕ → Option Setting
 setting_in xs v = option_and_then (λ x. x.setting) (slice_get xs v)
 
 abbrev pub known_in : ProgressState → Known
-known_in s = record { begun = s.begun; epoch = s.epoch; phase = s.phase; complete = list_all is_done s.vertices; setting = setting_in s.vertices }
+known_in s = record { begun = s.begun; epoch = s.epoch; version = s.version; phase = s.phase; complete = list_all is_done s.vertices; setting = setting_in s.vertices }
 
 -- ---- one record more
 
@@ -72,8 +72,30 @@ with_failure a x = record x { tasks = change a.task.index row_with_failure x.tas
 
 abbrev pub finished : Phase → Phase
 finished phases.Running = phases.Running
-finished (phases.CommitStarted sums) = phases.Finished sums
+finished (phases.CommitStarted sums n) = phases.Finished sums
 finished (phases.Finished sums) = phases.Finished sums
+
+abbrev pub one_more : Phase → Phase
+one_more phases.Running = phases.Running
+one_more (phases.CommitStarted sums n) = phases.CommitStarted sums (n + 1)
+one_more (phases.Finished sums) = phases.Finished sums
+
+-- the count of the recorded sinks has room for one more
+abbrev pub CanCount : Phase → Type 0
+CanCount phases.Running = ⊤
+CanCount (phases.CommitStarted sums n) = n + 1 < 2 ^ 32
+CanCount (phases.Finished sums) = ⊤
+
+abbrev pub CanTake : JournalRecord → Phase → Type 0
+CanTake (Submitted text) ph = ⊤
+CanTake (Opened e) ph = ⊤
+CanTake (Configured w tasks base) ph = ⊤
+CanTake (TaskSucceeded a) ph = ⊤
+CanTake (AttemptFailed a) ph = ⊤
+CanTake (CommitStarted sums) ph = ⊤
+CanTake Finished ph = ⊤
+CanTake Version ph = ⊤
+CanTake (SinkPublished w) ph = CanCount ph
 
 abbrev pub after : ProgressState → JournalRecord → ProgressState
 after s (Submitted text) = record s { begun = true }
@@ -81,8 +103,10 @@ after s (Opened e) = record s { begun = true; epoch = e.0 }
 after s (Configured v tasks base) = record s { begun = true; vertices = change v.0 (with_setting (record { tasks = tasks; base = base })) s.vertices }
 after s (TaskSucceeded a) = record s { begun = true; vertices = change a.task.vertex.0 (with_winner a) s.vertices }
 after s (AttemptFailed a) = record s { begun = true; vertices = change a.task.vertex.0 (with_failure a) s.vertices }
-after s (CommitStarted sums) = record s { begun = true; phase = phases.CommitStarted sums }
+after s (CommitStarted sums) = record s { begun = true; phase = phases.CommitStarted sums 0 }
 after s Finished = record s { begun = true; phase = finished s.phase }
+after s Version = record s { begun = true; version = 2 }
+after s (SinkPublished w) = record s { begun = true; phase = one_more s.phase }
 
 -- ---- the standing
 
@@ -104,6 +128,7 @@ all_failures_of x = flat_map failures_of x.tasks
 abbrev pub listed : ProgressState → Standing
 listed s = record {
   epoch = s.epoch;
+  version = s.version;
   configured = flat_map setting_of s.vertices;
   winners = flat_map winners_of s.vertices;
   failures = flat_map all_failures_of s.vertices;

@@ -3,13 +3,15 @@
 --     setting rs v            tasks and base of a vertex, by its Configured record
 --     winner rs t             the last attempt of the task that succeeded
 --     failures rs t           how many attempts of the task failed
+--     version rs              2 where a record says so, else 1
+--     published rs            how many sinks are recorded as published
 --     phase rs                whether the commit has started, and whether it has finished
 --     may_follow p rs r       the record may come after these
 --     IsLegal p rs            each record may come after those before it
 --     IsFirstIllegal p rs n   record n is the first that may not
 --     standing p rs           all that the records tell, in order of vertices and tasks
-use Rattle.std.specs.Prelude.{◌≡◌, ℕ, ◌+◌, ◌<◌, Bool, true, false, not, ◌&&◌, ◌==◌, nat_lt, nat_le, if◌then◌else◌, List, [], ◌∷◌, length, take, count_by, Option, Some, None, is_some, is_none, unwrap_or, slice_get, IsTrue, IsFalse}
-use Rattle.std.specs.List.{find, flat_map, list_all}
+use Rattle.std.specs.Prelude.{◌≡◌, ℕ, ◌+◌, ◌<◌, Bool, true, false, not, ◌&&◌, ◌||◌, ◌==◌, nat_lt, nat_le, if◌then◌else◌, List, [], ◌∷◌, length, take, count_by, Option, Some, None, is_some, is_none, unwrap_or, slice_get, IsTrue, IsFalse}
+use Rattle.std.specs.List.{filter, find, flat_map, fold, list_all, list_any}
 use Rattle.std.specs.Option.{option_or, option_map, option_map_or}
 use Rattle.tez_ids.specs.declared.VertexId.{VertexId}
 use Rattle.tez_ids.specs.declared.TaskId.{TaskId}
@@ -19,7 +21,7 @@ use Rattle.tez_lists.specs.Numbers.{numbers_from}
 use Rattle.tez_shrink.specs.Formulas.{tasks_of as tasks_for}
 use Rattle.tez_plan.specs.Dag.{Dag, vertex, from, to, tasks_of, is_one_to_one}
 use Rattle.tez_events.specs.declared.JournalRecord.{JournalRecord}
-use Rattle.tez_events.specs.declared.JournalRecord.TheVariants.{Submitted, Opened, Configured, TaskSucceeded, AttemptFailed, CommitStarted, Finished}
+use Rattle.tez_events.specs.declared.JournalRecord.TheVariants.{Submitted, Opened, Configured, TaskSucceeded, AttemptFailed, CommitStarted, Finished, Version, SinkPublished}
 use Rattle.tez_standing.specs.declared.state.Setting.{Setting}
 use Rattle.tez_standing.specs.declared.state.Phase.{Phase}
 use Rattle.tez_standing.specs.declared.state.Phase.TheVariants as phases
@@ -35,6 +37,8 @@ opens (TaskSucceeded a) = false
 opens (AttemptFailed a) = false
 opens (CommitStarted sums) = false
 opens Finished = false
+opens Version = false
+opens (SinkPublished w) = false
 
 abbrev pub sets : ℕ → JournalRecord → Option Setting
 sets v (Submitted text) = None
@@ -44,6 +48,8 @@ sets v (TaskSucceeded a) = None
 sets v (AttemptFailed a) = None
 sets v (CommitStarted sums) = None
 sets v Finished = None
+sets v Version = None
+sets v (SinkPublished w) = None
 
 abbrev pub wins : TaskId → JournalRecord → Option AttemptId
 wins t (Submitted text) = None
@@ -53,6 +59,8 @@ wins t (TaskSucceeded a) = if same_task a.task t then Some a else None
 wins t (AttemptFailed a) = None
 wins t (CommitStarted sums) = None
 wins t Finished = None
+wins t Version = None
+wins t (SinkPublished w) = None
 
 abbrev pub fails : TaskId → JournalRecord → Bool
 fails t (Submitted text) = false
@@ -62,6 +70,8 @@ fails t (TaskSucceeded a) = false
 fails t (AttemptFailed a) = same_task a.task t
 fails t (CommitStarted sums) = false
 fails t Finished = false
+fails t Version = false
+fails t (SinkPublished w) = false
 
 abbrev pub commits : JournalRecord → Option (List (ℕ × ℕ))
 commits (Submitted text) = None
@@ -71,6 +81,8 @@ commits (TaskSucceeded a) = None
 commits (AttemptFailed a) = None
 commits (CommitStarted sums) = Some sums
 commits Finished = None
+commits Version = None
+commits (SinkPublished w) = None
 
 abbrev pub finishes : JournalRecord → Bool
 finishes (Submitted text) = false
@@ -80,6 +92,19 @@ finishes (TaskSucceeded a) = false
 finishes (AttemptFailed a) = false
 finishes (CommitStarted sums) = false
 finishes Finished = true
+finishes Version = false
+finishes (SinkPublished w) = false
+
+abbrev pub is_version : JournalRecord → Bool
+is_version (Submitted text) = false
+is_version (Opened e) = false
+is_version (Configured w tasks base) = false
+is_version (TaskSucceeded a) = false
+is_version (AttemptFailed a) = false
+is_version (CommitStarted sums) = false
+is_version Finished = false
+is_version Version = true
+is_version (SinkPublished w) = false
 
 -- ---- what a list of records tells
 
@@ -108,22 +133,40 @@ failures rs t = count_by (fails t) rs
 abbrev pub ends_finished : List JournalRecord → Bool
 ends_finished rs = unwrap_or (latest (λ r. Some (finishes r)) rs) false
 
-abbrev pub phase_by : Bool → Option (List (ℕ × ℕ)) → Phase
-phase_by finished None = phases.Running
-phase_by false (Some sums) = phases.CommitStarted sums
-phase_by true (Some sums) = phases.Finished sums
+abbrev pub version : List JournalRecord → ℕ
+version rs = if list_any is_version rs then 2 else 1
+
+abbrev pub counted : ℕ → JournalRecord → ℕ
+counted n (Submitted text) = n
+counted n (Opened e) = n
+counted n (Configured w tasks base) = n
+counted n (TaskSucceeded a) = n
+counted n (AttemptFailed a) = n
+counted n (CommitStarted sums) = 0
+counted n Finished = n
+counted n Version = n
+counted n (SinkPublished w) = n + 1
+
+-- those since the commit started, where there are no others
+abbrev pub published : List JournalRecord → ℕ
+published rs = fold counted 0 rs
+
+abbrev pub phase_by : Bool → ℕ → Option (List (ℕ × ℕ)) → Phase
+phase_by finished n None = phases.Running
+phase_by false n (Some sums) = phases.CommitStarted sums n
+phase_by true n (Some sums) = phases.Finished sums
 
 abbrev pub phase : List JournalRecord → Phase
-phase rs = phase_by (ends_finished rs) (latest commits rs)
+phase rs = phase_by (ends_finished rs) (published rs) (latest commits rs)
 
 abbrev pub is_running : Phase → Bool
 is_running phases.Running = true
-is_running (phases.CommitStarted sums) = false
+is_running (phases.CommitStarted sums n) = false
 is_running (phases.Finished sums) = false
 
 abbrev pub is_committing : Phase → Bool
 is_committing phases.Running = false
-is_committing (phases.CommitStarted sums) = true
+is_committing (phases.CommitStarted sums n) = true
 is_committing (phases.Finished sums) = false
 
 -- every vertex has its tasks, and each of them has a winner
@@ -139,12 +182,13 @@ is_complete p rs = list_all (has_winners rs) (numbers_from 0 (length p.vertices)
 pub record Known : Type 0 where
   pub begun : Bool
   pub epoch : ℕ
+  pub version : ℕ
   pub phase : Phase
   pub complete : Bool
   pub setting : ℕ → Option Setting
 
 abbrev pub known : Dag → List JournalRecord → Known
-known p rs = record { begun = begun rs; epoch = epoch rs; phase = phase rs; complete = is_complete p rs; setting = setting rs }
+known p rs = record { begun = begun rs; epoch = epoch rs; version = version rs; phase = phase rs; complete = is_complete p rs; setting = setting rs }
 
 abbrev pub has_source : Dag → ℕ → Bool
 has_source p v = option_map_or (λ s. is_some s.source) (slice_get p.vertices v) false
@@ -175,18 +219,37 @@ is_present k a = a.epoch.0 == k.epoch && option_map_or (λ s. nat_lt a.task.inde
 abbrev pub sinks : Dag → ℕ
 sinks p = count_by (λ s. is_some s.sink) p.vertices
 
+-- the vertices with a sink, in their order
+abbrev pub has_sink : Dag → ℕ → Bool
+has_sink p v = option_map_or (λ s. is_some s.sink) (slice_get p.vertices v) false
+
+abbrev pub sink_vertices : Dag → List ℕ
+sink_vertices p = filter (has_sink p) (numbers_from 0 (length p.vertices))
+
+-- the sink that is recorded next in a commit that has started, None once each is
+abbrev pub next_sink : Dag → Phase → Option ℕ
+next_sink p phases.Running = None
+next_sink p (phases.CommitStarted sums n) = slice_get (sink_vertices p) n
+next_sink p (phases.Finished sums) = None
+
 -- a master was opened, and no commit has started
 abbrev pub is_open : Known → Bool
 is_open k = nat_lt 0 k.epoch && is_running k.phase
 
+-- a master may be opened: the job is not finished, and from version 2 on also once the commit has started
+abbrev pub goes_on : Known → Bool
+goes_on k = is_running k.phase || (k.version == 2 && is_committing k.phase)
+
 abbrev pub fits : Dag → Known → JournalRecord → Bool
 fits p k (Submitted text) = not k.begun
-fits p k (Opened e) = k.begun && (is_running k.phase && e.0 == k.epoch + 1)
+fits p k (Opened e) = k.begun && (goes_on k && e.0 == k.epoch + 1)
 fits p k (Configured v tasks base) = is_open k && may_configure p k.setting v.0 (record { tasks = tasks; base = base })
 fits p k (TaskSucceeded a) = is_open k && is_present k a
 fits p k (AttemptFailed a) = is_open k && is_present k a
 fits p k (CommitStarted sums) = is_open k && (length sums == sinks p && k.complete)
-fits p k Finished = is_committing k.phase
+fits p k Finished = is_committing k.phase && (k.version == 1 || is_none (next_sink p k.phase))
+fits p k Version = k.begun && (k.version == 1 && is_running k.phase)
+fits p k (SinkPublished w) = k.version == 2 && option_map_or (λ v. v == w.0) (next_sink p k.phase) false
 
 abbrev pub may_follow : Dag → List JournalRecord → JournalRecord → Bool
 may_follow p rs r = fits p (known p rs) r
@@ -227,6 +290,7 @@ each_vertex p f = flat_map f (numbers_from 0 (length p.vertices))
 abbrev pub standing : Dag → List JournalRecord → Standing
 standing p rs = record {
   epoch = epoch rs;
+  version = version rs;
   configured = each_vertex p (λ v. setting_row v (setting rs v));
   winners = each_vertex p (each_task p (λ t. winner_row (winner rs t)));
   failures = each_vertex p (each_task p (λ t. failures_row t (failures rs t)));
