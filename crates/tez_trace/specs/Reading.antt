@@ -1,12 +1,15 @@
--- Which bytes hold the text of which trace.
---     FitsEntry e       each number of an entry is in the range of its type
---     HasText bytes es  the bytes begin with the text of these entries
-use Rattle.std.specs.Prelude.{◌≡◌, ℕ, ◌<◌, ◌^◌, List, ◌++◌}
-use Rattle.std.specs.List.{AllByRecursion}
+-- Which bytes hold the text of which trace, and which hold none.
+--     FitsEntry e            each number of an entry is in the range of its type
+--     HasText bytes es       the bytes begin with the text of these entries
+--     IsStuck rest           neither the line `end` nor the line of an entry comes next
+--     IsRefusedAt bytes n    lines of entries, and then line n, which is neither or is not there
+--     IsLineOf line found    the line of that entry, or of none
+use Rattle.std.specs.Prelude.{◌≡◌, ℕ, ◌+◌, ◌<◌, ◌^◌, List, ◌++◌, codes, length, ◌≢◌, Option, MatchOption, ◌⊎◌}
+use Rattle.std.specs.List.{AllByRecursion, flat_map}
 use Rattle.tez_ids.specs.Fixed.{FitsFixed}
 use Rattle.tez_events.specs.declared.Entry.{Entry}
-use Rattle.tez_events.specs.declared.Entry.TheVariants.{Opened, Over, Stands, Carried, Kept, Configured, Queued, Placed, Fetched, ReadError, InputFailed, Ordered, Succeeded, Made, Failed, Killed, NodeLost, OutputLost, Rerun, Stopped, Ready, Published, CommitStarted, Finished, Purged}
-use Rattle.tez_trace.specs.Text.{trace_text_of}
+use Rattle.tez_events.specs.declared.Entry.TheVariants.{Opened, Over, Stands, Carried, Kept, Configured, Queued, Placed, Fetched, ReadError, InputFailed, Ordered, Succeeded, Made, Failed, Killed, NodeLost, OutputLost, Rerun, Stopped, Committing, Ready, Asked, Settled, Published, CommitStarted, Finished, Purged}
+use Rattle.tez_trace.specs.Text.{entry_line, trace_text_of, with_end}
 
 abbrev pub FitsEntry : Entry → Type 0
 FitsEntry (Opened epoch) = epoch.0 < 2 ^ 64
@@ -29,7 +32,10 @@ FitsEntry (NodeLost slot life) = (slot < 2 ^ 16) × (life < 2 ^ 64)
 FitsEntry (OutputLost a) = FitsFixed a
 FitsEntry (Rerun a) = FitsFixed a
 FitsEntry (Stopped cause) = Unit {0}
+FitsEntry (Committing sinks) = sinks < 2 ^ 64
 FitsEntry (Ready vertex) = vertex.0 < 2 ^ 16
+FitsEntry (Asked vertex) = vertex.0 < 2 ^ 16
+FitsEntry (Settled vertex) = vertex.0 < 2 ^ 16
 FitsEntry (Published vertex) = vertex.0 < 2 ^ 16
 FitsEntry CommitStarted = Unit {0}
 FitsEntry Finished = Unit {0}
@@ -38,3 +44,26 @@ FitsEntry Purged = Unit {0}
 -- what follows the line `end` does not matter
 abbrev pub HasText : List ℕ → List Entry → Type 0
 HasText bytes entries = AllByRecursion FitsEntry entries × ((rest : List ℕ) × (trace_text_of entries ++ rest ≡ bytes))
+
+abbrev pub BeginsWith : List ℕ → List ℕ → Type 0
+BeginsWith start bytes = (rest : List ℕ) × (start ++ rest ≡ bytes)
+
+abbrev pub IsLineOf : List ℕ → Option Entry → Type 0
+IsLineOf line found = MatchOption found ((e : Entry) → FitsEntry e → entry_line e ≢ line) (λ e. FitsEntry e × (entry_line e ≡ line))
+
+-- a line is one with its LF, so a last piece without LF is none
+pub record IsStuck (rest : List ℕ) : Type 0 where
+  pub no_end : ¬ (BeginsWith (codes "end\n") rest)
+  pub no_entry : (e : Entry) → FitsEntry e → ¬ (BeginsWith (with_end e) rest)
+
+-- lines are counted from 1
+pub record IsRefusedAt (bytes : List ℕ) (n : ℕ) : Type 0 where
+  pub lines : List Entry
+  pub fit : AllByRecursion FitsEntry lines
+  pub rest : List ℕ
+  pub text : flat_map with_end lines ++ rest ≡ bytes
+  pub line : n ≡ length lines + 1
+  pub stuck : IsStuck rest
+
+abbrev pub IsReadOrRefused : List ℕ → Type 0
+IsReadOrRefused bytes = ((es : List Entry) × HasText bytes es) ⊎ ((n : ℕ) × IsRefusedAt bytes n)
