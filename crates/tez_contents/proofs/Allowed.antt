@@ -15,7 +15,7 @@ use Rattle.tez_shrink.specs.Formulas.{tasks_of as tasks_for, base_of}
 use Rattle.tez_vman.specs.declared.seen.Config.{Config}
 use Rattle.tez_vman.specs.Rules.{configures as configures_by, config as shape}
 use Rattle.tez_events.specs.declared.Entry.{Entry}
-use Rattle.tez_events.specs.declared.Entry.TheVariants.{Opened, Over, Stands, Kept, Configured, Stopped}
+use Rattle.tez_events.specs.declared.Entry.TheVariants.{Opened, Over, Stands, Kept, Configured}
 use Rattle.tez_history.specs.Shape.{Edge, Feed, ByFile, ByVertex, ByPartitions, feed, feed_by, rule_by, has_source}
 use Rattle.tez_history.specs.History.{Past, config}
 use Rattle.tez_history.specs.Derived.{is_configured, task_count, seen}

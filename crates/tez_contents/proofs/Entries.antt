@@ -1,18 +1,19 @@
--- No event and no report adds a configuration or a winner that was found.
+-- No event, no report and no answer adds a configuration or a winner that was found.
 --     none_finds es                 none of these was found
---     finds_event, finds_report
+--     finds_event, finds_report, finds_answer
 use Rattle.std.specs.Prelude.{◌≡◌, ℕ, suc, ◌||◌, not, nat_le, Bool, true, false, if◌then◌else◌, List, [], ◌∷◌, ◌++◌, map, Option, Some, None, refl}
 use Rattle.std.specs.List.{list_all}
 use Rattle.tez_ids.specs.declared.AttemptId.{AttemptId}
+use Rattle.tez_ids.specs.declared.VertexId.{VertexId}
 use Rattle.tez_plan.specs.Dag.{Dag, edge}
 use Rattle.tez_conf.specs.declared.values.ConfValues.{ConfValues}
 use Rattle.tez_events.specs.declared.Entry.{Entry}
 use Rattle.tez_events.specs.declared.Entry.TheVariants.{Fetched, ReadError, InputFailed, Made, Failed, NodeLost}
 use Rattle.tez_events.specs.declared.CoreEvent.{CoreEvent}
-use Rattle.tez_events.specs.declared.CoreEvent.TheVariants.{Open, Configure, Queue, Place, Fetch, Send, Preempt, Fail, LoseNode, LoseOutput, Restart, Ready, CommitStart, Publish, Finish, Purge}
+use Rattle.tez_events.specs.declared.CoreEvent.TheVariants.{Open, Configure, Queue, Place, Fetch, Send, Preempt, Fail, LoseNode, LoseOutput, Restart, Ready, CommitStart, Ask, Publish, Finish, Purge}
 use Rattle.tez_history.specs.History.{Past, extend, holder, winner, life, failures, is_committing}
 use Rattle.tez_history.specs.Derived.{tasks, notices, places_on, is_on_node, is_on_shelf}
-use Rattle.tez_history.specs.Steps.{entries_of, each_after, requeue, withdrawal, killed_by_node, kill_at, withdrawn_if, withdraw_lost, node_kills, node_withdrawals, fetch_entries, winner_behind, output_lost_entries}
+use Rattle.tez_history.specs.Steps.{entries_of, each_after, requeue, withdrawal, killed_by_node, kill_at, withdrawn_if, withdraw_lost, node_kills, node_withdrawals, fetch_entries, winner_behind, output_lost_entries, asked_entries}
 use Rattle.tez_laws.proofs.StepLaw.{AllNotices, notices_are, both}
 use Rattle.tez_progress.specs.Laws.{is_stands}
 use Rattle.tez_progress.proofs.Members.{true_and}
@@ -90,6 +91,7 @@ finds_event g c past (LoseNode slot) = finds_loss g c past slot (is_committing p
 finds_event g c past (LoseOutput t) = finds_output (winner t past)
 finds_event g c past (Ready v) = refl
 finds_event g c past CommitStart = refl
+finds_event g c past (Ask v) = refl
 finds_event g c past (Publish v) = refl
 finds_event g c past Finish = refl
 finds_event g c past Restart = refl
@@ -99,3 +101,7 @@ finds_event g c past Open = refl
 pub finds_report : (a : AttemptId) (made : List (ℕ × ℕ)) → none_finds (map (λ m. Made a (edge m.0) m.1) made) ≡ true
 finds_report a [] = refl
 finds_report a (x ∷ xs) = finds_report a xs
+
+pub finds_answer : (v : VertexId) (there : Bool) → none_finds (asked_entries v there) ≡ true
+finds_answer v true = refl
+finds_answer v false = refl

@@ -1,7 +1,7 @@
 -- Every run is right, if what each new master finds is.
 --     run_right       from what is found
 --     anew_right      where nothing is found
-use Rattle.std.specs.Prelude.{◌≡◌, ℕ, ◌≤◌, ◌&&◌, ◌||◌, not, Bool, true, false, if◌then◌else◌, List, [], ◌∷◌, ◌++◌, Option, Some, None, is_some, refl}
+use Rattle.std.specs.Prelude.{◌≡◌, ℕ, ◌≤◌, ◌&&◌, ◌||◌, not, nat_le, Bool, true, false, if◌then◌else◌, List, [], ◌∷◌, ◌++◌, Option, Some, None, is_some, refl}
 use Rattle.std.specs.List.{AllByRecursion}
 use Rattle.std.proofs.Common.{sym, ap, subst}
 use Rattle.tez_ids.specs.declared.TaskId.{TaskId}
@@ -13,21 +13,22 @@ use Rattle.tez_meaning.specs.Jobs.{Job}
 use Rattle.tez_events.specs.declared.StopCause.{StopCause}
 use Rattle.tez_events.specs.declared.StopCause.TheVariants.{Script}
 use Rattle.tez_events.specs.declared.Entry.{Entry}
-use Rattle.tez_events.specs.declared.Entry.TheVariants.{Over, Stopped}
+use Rattle.tez_events.specs.declared.Entry.TheVariants.{Over, Committing}
 use Rattle.tez_events.specs.declared.CoreEvent.{CoreEvent}
-use Rattle.tez_events.specs.declared.CoreEvent.TheVariants.{Open, Restart}
-use Rattle.tez_history.specs.History.{Past, config, extend, stage, is_up}
-use Rattle.tez_history.specs.Derived.{is_processing}
-use Rattle.tez_history.specs.Steps.{enabled, entries_of, done_entries}
+use Rattle.tez_events.specs.declared.CoreEvent.TheVariants.{Open, Restart, Ask}
+use Rattle.tez_history.specs.History.{Past, config, extend, stage, is_up, recorded}
+use Rattle.tez_history.specs.Derived.{is_processing, all_done}
+use Rattle.tez_history.specs.Steps.{enabled, entries_of, done_entries, asked_entries}
 use Rattle.tez_history.specs.Follows.{IsMade, AllMayFollow}
-use Rattle.tez_history.specs.Runs.{Run, Standing, Found, Unfinished, AllDone, Begun, Happening, Event, Report, Stop, Start, spent_in, opened_unless, opened_by, going_on, stopped, took, happens_to, happens, run, not_begun}
+use Rattle.tez_history.specs.Runs.{Run, Standing, Found, Unfinished, AllDone, Committed, Begun, Happening, Event, Report, Answer, Stop, Start, opened_at, standing_entries, committing_if, committed_entries, spent_in, opened_unless, committed_unless, opened_by, going_on, stopped, took, happens_to, happens, run, not_begun}
 use Rattle.tez_laws.specs.Laws.{IsSound}
-use Rattle.tez_laws.proofs.StepLaw.{event_may, done_may, both}
+use Rattle.tez_laws.proofs.StepLaw.{event_may, done_may, asked_may, both}
+use Rattle.tez_laws.proofs.Going.{extend-append}
 use Rattle.tez_laws.proofs.RunLaw.{run_sound}
 use Rattle.tez_progress.specs.Laws.{is_stands, found_at}
 use Rattle.tez_contents.specs.Laws.{FindsRight, AllFindRight, IsRight, StandsRight, BeginsAnew, is_kept}
 use Rattle.tez_contents.proofs.Allowed.{allowed_none, allowed_next, was_allowed, kept_none}
-use Rattle.tez_contents.proofs.Entries.{finds, none_finds, finds_event, finds_report}
+use Rattle.tez_contents.proofs.Entries.{finds, none_finds, finds_event, finds_report, finds_answer}
 use Rattle.tez_contents.proofs.Opening.{Good, opening_good}
 use Rattle.tez_contents.proofs.Attempts.{all_right}
 use Rattle.tez_contents.proofs.Whole.{winners_whole}
@@ -55,12 +56,29 @@ module _ (job : Job) (c : ConfValues) (ranges : IsInRanges job.plan) (valid : Is
   took_good : (r : Run) (e : CoreEvent) → IsMade job.plan c r.past → enabled job.plan c r.past e ≡ true → Good job r.past → Good job (took job.plan c r e).past
   took_good r Restart made h good = stopped_good r Script good
   took_good r Open made h good = good
+  took_good r (Ask v) made h good = good
   took_good r e made h good = event_good r.past e made h good
+
+  committing_good : (past : Past) (n : ℕ) → Good job past → Good job (extend past (committing_if job.plan past n))
+  committing_good past n good = by (all_done job.plan past && nat_le (recorded past) n) where
+    by : (b : Bool) → Good job (extend past (if b then Committing n ∷ [] else []))
+    by true = ((good.1, good.0), good.1, (tt, good.2))
+    by false = good
+
+  committed_good : (past : Past) (s : Standing) (n : ℕ) → StandsRight job past s → Good job past → Good job (extend (opened_at s past) (committed_entries job.plan (opened_at s past) s n))
+  committed_good past s n right good =
+      let p = opened_at s past in
+      let es = standing_entries job.plan p s in
+      subst (Good job) (sym (extend-append p es (committing_if job.plan (extend p es) n))) (committing_good (extend p es) n (opening_good job ranges valid past s right good))
 
   opened_good : (r : Run) (found : Found) → FindsRight job r.past (Start found) → Good job r.past → Good job (opened_by job.plan c r found).past
   opened_good r (Unfinished s) right good = by (spent_in c s) where
     by : (o : Option (TaskId × ℕ)) → Good job (opened_unless job.plan r s o).past
     by None = opening_good job ranges valid r.past s right good
+    by (Some x) = good
+  opened_good r (Committed s n) right good = by (spent_in c s) where
+    by : (o : Option (TaskId × ℕ)) → Good job (committed_unless job.plan r s n o).past
+    by None = committed_good r.past s n right good
     by (Some x) = good
   opened_good r AllDone right good = ((good.1, good.0), allowed_none job.plan (λ v. config v (Over ∷ r.past)) (λ v. refl), (tt, good.2))
   opened_good r Begun right good = good
@@ -73,6 +91,10 @@ module _ (job : Job) (c : ConfValues) (ranges : IsInRanges job.plan) (valid : Is
   happens_to_good r (Report a bytes) made right good = by (is_up r.past && is_processing (stage a r.past)) refl where
     by : (b : Bool) → (is_up r.past && is_processing (stage a r.past)) ≡ b → Good job (if b then going_on r.past (done_entries a bytes) else r).past
     by true h = good_extend r.past (done_entries a bytes) (done_may job.plan c r.past a bytes (both {x = is_up r.past} h).1) (finds_report a bytes) good
+    by false h = good
+  happens_to_good r (Answer v there) made right good = by (enabled job.plan c r.past (Ask v)) refl where
+    by : (b : Bool) → enabled job.plan c r.past (Ask v) ≡ b → Good job (if b then going_on r.past (asked_entries v there) else r).past
+    by true h = good_extend r.past (asked_entries v there) (asked_may job.plan c r.past v there h) (finds_answer v there) good
     by false h = good
   happens_to_good r (Stop cause) made right good = stopped_good r cause good
   happens_to_good r (Start found) made right good = by (not (is_up r.past)) where
@@ -123,10 +145,12 @@ stands_anew job past s none nobody =
 
 finds_anew : (job : Job) (past : Past) (h : Happening) → BeginsAnew h → FindsRight job past h
 finds_anew job past (Start (Unfinished s)) new = stands_anew job past s new.0 new.1
+finds_anew job past (Start (Committed s n)) new = stands_anew job past s new.0 new.1
 finds_anew job past (Start AllDone) new = tt
 finds_anew job past (Start Begun) new = tt
 finds_anew job past (Event e) new = tt
 finds_anew job past (Report a bytes) new = tt
+finds_anew job past (Answer v there) new = tt
 finds_anew job past (Stop cause) new = tt
 
 all_anew : (job : Job) (c : ConfValues) (r : Run) (hs : List Happening) → AllByRecursion BeginsAnew hs → AllFindRight job c r hs

@@ -31,7 +31,7 @@ use Rattle.tez_events.specs.declared.Entry.{Entry}
 use Rattle.tez_events.specs.declared.Entry.TheVariants.{Opened, Stands, Kept}
 use Rattle.tez_history.specs.History.{Past, config, winner, is_fetched}
 use Rattle.tez_history.specs.Derived.{task_count, source_task, winners_of, is_vertex_done}
-use Rattle.tez_history.specs.Runs.{Run, Standing, Unfinished, AllDone, Begun, Happening, Event, Report, Stop, Start, happens}
+use Rattle.tez_history.specs.Runs.{Run, Standing, Unfinished, AllDone, Committed, Begun, Happening, Event, Report, Answer, Stop, Start, happens}
 use Rattle.tez_progress.specs.Laws.{found_at}
 use Rattle.tez_contents.specs.Contents.{Records, config_by, configurations, piece_for, made, copied, met_bad, is_ordered}
 
@@ -119,10 +119,12 @@ StandsRight job past s =
 
 abbrev pub FindsRight : Job → Past → Happening → Type 0
 FindsRight job past (Start (Unfinished s)) = StandsRight job past s
+FindsRight job past (Start (Committed s n)) = StandsRight job past s
 FindsRight job past (Start AllDone) = ⊤
 FindsRight job past (Start Begun) = ⊤
 FindsRight job past (Event e) = ⊤
 FindsRight job past (Report a bytes) = ⊤
+FindsRight job past (Answer v there) = ⊤
 FindsRight job past (Stop cause) = ⊤
 
 abbrev pub AllFindRight : Job → ConfValues → Run → List Happening → Type 0
@@ -131,8 +133,10 @@ AllFindRight job c r (h ∷ hs) = FindsRight job r.past h × AllFindRight job c 
 
 abbrev pub BeginsAnew : Happening → Type 0
 BeginsAnew (Start (Unfinished s)) = (s.configured ≡ []) × (s.kept ≡ [])
+BeginsAnew (Start (Committed s n)) = (s.configured ≡ []) × (s.kept ≡ [])
 BeginsAnew (Start AllDone) = ⊤
 BeginsAnew (Start Begun) = ⊤
 BeginsAnew (Event e) = ⊤
 BeginsAnew (Report a bytes) = ⊤
+BeginsAnew (Answer v there) = ⊤
 BeginsAnew (Stop cause) = ⊤

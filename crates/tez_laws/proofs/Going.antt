@@ -3,17 +3,18 @@ use Rattle.std.specs.Prelude.{◌≡◌, ℕ, suc, Bool, true, false, ◌||◌, 
 use Rattle.std.proofs.Common.{sym, ap, ◌∙◌, subst}
 use Rattle.tez_ids.specs.declared.TaskId.{TaskId}
 use Rattle.tez_ids.specs.declared.AttemptId.{AttemptId}
+use Rattle.tez_ids.specs.declared.VertexId.{VertexId}
 use Rattle.tez_events.specs.declared.Entry.{Entry}
 use Rattle.tez_events.specs.declared.Entry.TheVariants.{Queued, Fetched, ReadError, InputFailed, Succeeded, Made, Failed, Killed, NodeLost, Rerun}
 use Rattle.tez_events.specs.declared.CoreEvent.{CoreEvent}
-use Rattle.tez_events.specs.declared.CoreEvent.TheVariants.{Open, Configure, Queue, Place, Fetch, Send, Preempt, Fail, LoseNode, LoseOutput, Restart, Ready, CommitStart, Publish, Finish, Purge}
+use Rattle.tez_events.specs.declared.CoreEvent.TheVariants.{Open, Configure, Queue, Place, Fetch, Send, Preempt, Fail, LoseNode, LoseOutput, Restart, Ready, CommitStart, Ask, Publish, Finish, Purge}
 use Rattle.tez_ids.specs.Same.{same_task, same_attempt}
 use Rattle.tez_plan.specs.Dag.{Dag, edge}
 use Rattle.tez_conf.specs.declared.values.ConfValues.{ConfValues}
 use Rattle.tez_history.specs.History.{Past, extend, live, winner, freed, holder, life, is_scheduled, is_committing}
 use Rattle.tez_history.specs.Derived.{tasks, notices, next_attempt, places_on, is_on_node, is_on_shelf}
 use Rattle.tez_history.specs.Steps.{entries_of, each_after, requeue, withdrawal, killed_by_node, kill_at, withdrawn_if, withdraw_lost, node_kills, node_withdrawals, fetch_entries, winner_behind, output_lost_entries, done_entries}
-use Rattle.tez_laws.specs.Laws.{GoesOn, SpendsNot}
+use Rattle.tez_laws.specs.Laws.{GoesOn, SpendsNot, answered}
 use Rattle.tez_laws.proofs.Same.{same_task-refl, same_attempt-true}
 use Rattle.tez_laws.proofs.Tasks.{winner_task}
 use Rattle.tez_laws.proofs.StepLaw.{AllNotices, notices_are, through}
@@ -149,8 +150,13 @@ event_going g c past (LoseNode slot) n h = loss_going g c past slot (is_committi
 event_going g c past (LoseOutput t) n h = output_going past (winner t past) h
 event_going g c past (Ready v) n h = h
 event_going g c past CommitStart n h = h
+event_going g c past (Ask v) n h = h
 event_going g c past (Publish v) n h = h
 event_going g c past Finish n h = h
 event_going g c past Restart n h = λ u e k. refl
 event_going g c past Purge n h = h
 event_going g c past Open n h = h
+
+pub asked_going : (past : Past) (v : VertexId) (there : Bool) → GoesOn past → GoesOn (answered past v there)
+asked_going past v true h = h
+asked_going past v false h = h

@@ -7,6 +7,7 @@ pub mod Joined
 pub mod StepLaw
 pub mod Opening
 pub mod Sinks
+pub mod Counting
 pub mod Obeying
 pub mod Fresh
 pub mod Fetches

@@ -8,9 +8,9 @@ use Rattle.tez_vman.specs.declared.seen.Config.{Config}
 use Rattle.tez_vman.specs.Rules.{config as shape}
 use Rattle.tez_events.specs.declared.KillCause.TheVariants.{Node, Preempt}
 use Rattle.tez_events.specs.declared.Entry.{Entry}
-use Rattle.tez_events.specs.declared.Entry.TheVariants.{Stands, Configured, Placed, Fetched, ReadError, Ordered, Succeeded, Failed, Killed, NodeLost, Ready, Published, CommitStarted, Finished, Purged}
-use Rattle.tez_history.specs.Shape.{places, vertices, sinks}
-use Rattle.tez_history.specs.History.{Past, Stage, InQueue, stage, holder, container_of, config, is_readied}
+use Rattle.tez_events.specs.declared.Entry.TheVariants.{Stands, Configured, Placed, Fetched, ReadError, Ordered, Succeeded, Failed, Killed, NodeLost, Committing, Ready, Asked, Settled, Published, CommitStarted, Finished, Purged}
+use Rattle.tez_history.specs.Shape.{places, vertices}
+use Rattle.tez_history.specs.History.{Past, Stage, InQueue, stage, holder, container_of, config}
 use Rattle.tez_history.specs.Derived.{Input, is_queued, is_configured, is_vertex_done, all_done, winners_of, task_count, configures}
 use Rattle.tez_history.specs.Steps.{input_at, winner_of_input, winner_behind}
 use Rattle.tez_history.specs.Rules.{has_input, places_right, commit_right, is_config, all_won}
@@ -19,7 +19,8 @@ use Rattle.tez_laws.specs.Laws.{Obeys, configured_right}
 use Rattle.tez_laws.proofs.OneLive.{waiting_alive, running_alive}
 use Rattle.tez_laws.proofs.StepLaw.{both}
 use Rattle.tez_laws.proofs.Opening.{all_hold, alive_there}
-use Rattle.tez_laws.proofs.Sinks.{first_in, sink_is_vertex, next_sink, all_less}
+use Rattle.tez_laws.proofs.Sinks.{sink_is_vertex, all_less}
+use Rattle.tez_laws.proofs.Counting.{open_same, ready_sink, committing_right, asked_right, settled_right, published_right, finished_right}
 
 pub obeys : (rule : Dag → ConfValues → Past → Entry → Bool) → ((g : Dag) (c : ConfValues) (past : Past) (e : Entry) → IsMade g c past → MayFollow g c past e → rule g c past e ≡ true)
     → (g : Dag) (c : ConfValues) (past : Past) → IsMade g c past → Obeys rule g c past
@@ -84,10 +85,13 @@ won_all g past h =
     all_less (λ v. is_vertex_done g v past) (λ v. length (winners_of v (task_count g v past) past) == task_count g v past) (vertices g) (λ v k. (both {x = is_configured v past} k).1) h
 
 commit_follow : (g : Dag) (c : ConfValues) (past : Past) (e : Entry) → IsMade g c past → MayFollow g c past e → commit_right g c past e ≡ true
-commit_follow g c past (Ready v) made m = all_hold _ _ (sink_is_vertex g v.0 (first_in (λ w. is_readied w past) (sinks g) v.0 m.2).0) (won_all g past m.0)
+commit_follow g c past (Committing n) made m = all_hold _ _ m.0 (committing_right g c past n made m.1)
+commit_follow g c past (Ready v) made m = all_hold _ _ (sink_is_vertex g v.0 (ready_sink g past v.0 m.1)) (won_all g past m.0)
+commit_follow g c past (Asked v) made m = asked_right g c past v.0 made m.0 m.1
+commit_follow g c past (Settled v) made m = settled_right g c past v.0 made m.0 m.1
 commit_follow g c past CommitStarted made m = m.1
-commit_follow g c past (Published v) made m = all_hold _ _ m.0 (next_sink g c past v.0 made m.1)
-commit_follow g c past Finished made m = all_hold _ _ m.0 m.1
+commit_follow g c past (Published v) made m = published_right g c past v.0 made m
+commit_follow g c past Finished made m = all_hold _ _ (open_same g c past made ∙ m.0) (finished_right g past m.1)
 commit_follow g c past Purged made m = m.0
 commit_follow g c past _ made m = refl
 

@@ -8,11 +8,11 @@ use Rattle.tez_plan.specs.Dag.{Dag}
 use Rattle.tez_conf.specs.declared.values.ConfValues.{ConfValues}
 use Rattle.tez_events.specs.declared.KillCause.TheVariants.{Node, Preempt}
 use Rattle.tez_events.specs.declared.Entry.{Entry}
-use Rattle.tez_events.specs.declared.Entry.TheVariants.{Opened, Over, Stands, Carried, Kept, Configured, Queued, Placed, Fetched, ReadError, InputFailed, Ordered, Succeeded, Made, Failed, Killed, NodeLost, OutputLost, Rerun, Stopped, Ready, Published, CommitStarted, Finished, Purged}
+use Rattle.tez_events.specs.declared.Entry.TheVariants.{Opened, Over, Stands, Carried, Kept, Configured, Queued, Placed, Fetched, ReadError, InputFailed, Ordered, Succeeded, Made, Failed, Killed, NodeLost, OutputLost, Rerun, Stopped, Committing, Ready, Asked, Settled, Published, CommitStarted, Finished, Purged}
 use Rattle.tez_history.specs.Shape.{is_vertex}
-use Rattle.tez_history.specs.History.{Past, stage, winner, is_scheduled, is_committing}
+use Rattle.tez_history.specs.History.{Past, stage, winner, is_scheduled, is_committing, is_found}
 use Rattle.tez_history.specs.Derived.{is_task, is_configured}
-use Rattle.tez_history.specs.Rules.{is_at_start, is_start, is_there, was_scheduled}
+use Rattle.tez_history.specs.Rules.{is_at_start, is_start, is_opening_step, is_there, was_scheduled}
 use Rattle.tez_history.specs.Follows.{IsAlive, IsOpen, MayFollow, IsMade}
 use Rattle.tez_laws.specs.Laws.{start_alone}
 use Rattle.tez_laws.proofs.OneLive.{waiting_alive, running_alive, placed_alive, killed_placed}
@@ -40,6 +40,16 @@ committing_open [] h = cc
 committing_open (Stopped _ ∷ past) h = cc
 committing_open (_ ∷ past) h = refl
 
+found_open : (past : Past) → is_found past ≡ true → IsOpen past
+found_open [] h = cc
+found_open (Stopped _ ∷ past) h = cc
+found_open (_ ∷ past) h = refl
+
+step_open : (past : Past) → is_opening_step past ≡ true → IsOpen past
+step_open [] h = cc
+step_open (Stopped _ ∷ past) h = cc
+step_open (_ ∷ past) h = refl
+
 pub open_before : (g : Dag) (c : ConfValues) (past : Past) (e : Entry) → MayFollow g c past e → is_start e ≡ false → IsOpen past
 open_before g c past (Opened _) m s = cc
 open_before g c past Over m s = cc
@@ -62,8 +72,11 @@ open_before g c past (Killed a Preempt) m s = alive_open past a (placed_alive (s
 open_before g c past (NodeLost slot l) m s = m.2
 open_before g c past (OutputLost w) m s = winner_open past w.task w m.0
 open_before g c past (Rerun w) m s = winner_open past w.task w m
-open_before g c past (Ready v) m s = m.3
-open_before g c past (Published v) m s = committing_open past m.0
+open_before g c past (Committing n) m s = step_open past m.0
+open_before g c past (Ready v) m s = m.2
+open_before g c past (Asked v) m s = found_open past m.0
+open_before g c past (Settled v) m s = found_open past m.0
+open_before g c past (Published v) m s = committing_open past (both {x = is_committing past} m).0
 open_before g c past CommitStarted m s = m.2
 open_before g c past Finished m s = committing_open past m.0
 open_before g c past Purged m s = m.1

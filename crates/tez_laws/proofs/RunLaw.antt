@@ -6,6 +6,7 @@ use Rattle.std.proofs.Math.Nat.{le-max_right}
 use Rattle.std.proofs.lemmas.Bool.Decides.{nat_tests}
 use Rattle.tez_ids.specs.declared.TaskId.{TaskId}
 use Rattle.tez_ids.specs.declared.AttemptId.{AttemptId}
+use Rattle.tez_ids.specs.declared.VertexId.{VertexId}
 use Rattle.tez_ids.specs.Same.{same_task}
 use Rattle.tez_plan.specs.Dag.{Dag, edge, vertex}
 use Rattle.tez_conf.specs.declared.values.ConfValues.{ConfValues}
@@ -13,22 +14,22 @@ use Rattle.tez_vman.specs.declared.seen.Config.{Config}
 use Rattle.tez_events.specs.declared.StopCause.{StopCause}
 use Rattle.tez_events.specs.declared.StopCause.TheVariants.{Script}
 use Rattle.tez_events.specs.declared.Entry.{Entry}
-use Rattle.tez_events.specs.declared.Entry.TheVariants.{Opened, Over, Stands, Carried, Kept, Queued, Fetched, ReadError, InputFailed, Made, Failed, NodeLost, Rerun, Stopped, Purged}
+use Rattle.tez_events.specs.declared.Entry.TheVariants.{Opened, Over, Stands, Carried, Kept, Queued, Fetched, ReadError, InputFailed, Made, Failed, NodeLost, Rerun, Stopped, Committing, Purged}
 use Rattle.tez_events.specs.declared.CoreEvent.{CoreEvent}
-use Rattle.tez_events.specs.declared.CoreEvent.TheVariants.{Open, Configure, Queue, Place, Fetch, Send, Preempt, Fail, LoseNode, LoseOutput, Restart, Ready, CommitStart, Publish, Finish, Purge}
+use Rattle.tez_events.specs.declared.CoreEvent.TheVariants.{Open, Configure, Queue, Place, Fetch, Send, Preempt, Fail, LoseNode, LoseOutput, Restart, Ready, CommitStart, Ask, Publish, Finish, Purge}
 use Rattle.tez_history.specs.Shape.{is_vertex}
-use Rattle.tez_history.specs.History.{Past, epoch, config, extend, stage, live, winner, holder, is_up, life, failures, is_scheduled, is_committing}
-use Rattle.tez_history.specs.Derived.{is_task, tasks, is_processing, notices, places_on, is_on_node, is_on_shelf}
-use Rattle.tez_history.specs.Steps.{enabled, is_running, entries_of, each_after, requeue, withdrawal, killed_by_node, kill_at, withdrawn_if, withdraw_lost, node_kills, node_withdrawals, fetch_entries, winner_behind, output_lost_entries, done_entries}
-use Rattle.tez_history.specs.Rules.{is_at_start, is_start, withdrawals_right, withdraws_there, owed}
+use Rattle.tez_history.specs.History.{Past, epoch, config, extend, stage, live, winner, holder, is_up, life, failures, is_scheduled, is_committing, recorded}
+use Rattle.tez_history.specs.Derived.{is_task, tasks, is_processing, all_done, notices, places_on, is_on_node, is_on_shelf}
+use Rattle.tez_history.specs.Steps.{enabled, is_running, entries_of, each_after, requeue, withdrawal, killed_by_node, kill_at, withdrawn_if, withdraw_lost, node_kills, node_withdrawals, fetch_entries, winner_behind, output_lost_entries, done_entries, asked_entries}
+use Rattle.tez_history.specs.Rules.{is_at_start, is_start, is_opening_step, withdrawals_right, withdraws_there, owed}
 use Rattle.tez_history.specs.Follows.{IsOpen, MayFollow, IsMade, AllMayFollow}
-use Rattle.tez_history.specs.Runs.{Standing, stands_if, kept_if, carried_entries, opened_at, Run, Verdict, Found, Unfinished, AllDone, Begun, Happening, Event, Report, Stop, Start, standing_entries, spent_in, opened_unless, opened_by, going_on, ended_by, stopped, stepped, took, happens_to, happens, run, not_begun, IsBetween}
+use Rattle.tez_history.specs.Runs.{Standing, stands_if, kept_if, carried_entries, opened_at, Run, Verdict, Found, Unfinished, AllDone, Committed, Begun, Happening, Event, Report, Answer, Stop, Start, standing_entries, committing_if, committed_entries, spent_in, opened_unless, committed_unless, opened_by, going_on, ended_by, stopped, stepped, took, happens_to, happens, run, not_begun, IsBetween}
 use Rattle.tez_laws.specs.Laws.{Obeys, OwesRight, GoesOn, SpendsNot, FewFailures, spent_right, start_alone, IsSound}
-use Rattle.tez_laws.proofs.StepLaw.{may-append, made-extend, event_may, done_may, AllNotices, notices_are, both, up_open}
+use Rattle.tez_laws.proofs.StepLaw.{may-append, made-extend, event_may, done_may, asked_may, AllNotices, notices_are, both, up_open}
 use Rattle.tez_laws.proofs.Same.{same_task-true}
 use Rattle.tez_laws.proofs.Opening.{all_hold, winner_there}
-use Rattle.tez_laws.proofs.Withdrawals.{event_owes, done_owes}
-use Rattle.tez_laws.proofs.Going.{event_going, done_going}
+use Rattle.tez_laws.proofs.Withdrawals.{event_owes, done_owes, asked_owes}
+use Rattle.tez_laws.proofs.Going.{event_going, done_going, asked_going}
 
 -- ---- tests along a list of entries
 
@@ -179,6 +180,7 @@ quiet_event g c past (LoseNode slot) h = quiet_loss g c past slot (is_committing
 quiet_event g c past (LoseOutput t) h = quiet_output (winner t past)
 quiet_event g c past (Ready v) h = tt
 quiet_event g c past CommitStart h = tt
+quiet_event g c past (Ask v) h = tt
 quiet_event g c past (Publish v) h = tt
 quiet_event g c past Finish h = tt
 quiet_event g c past Restart h = absurd h
@@ -188,6 +190,10 @@ quiet_event g c past Open h = absurd h
 pub quiet_made : (a : AttemptId) (made : List (ℕ × ℕ)) → AllQuiet (map (λ m. Made a (edge m.0) m.1) made)
 quiet_made a [] = tt
 quiet_made a (x ∷ xs) = quiet_made a xs
+
+pub quiet_asked : (v : VertexId) (there : Bool) → AllQuiet (asked_entries v there)
+quiet_asked v true = tt
+quiet_asked v false = tt
 
 -- ---- a failure
 
@@ -253,6 +259,7 @@ up_of g c past (LoseNode slot) q h = (both h).0
 up_of g c past (LoseOutput t) q h = (both h).0
 up_of g c past (Ready v) q h = (both (both h).0).0
 up_of g c past CommitStart q h = (both (both h).0).0
+up_of g c past (Ask v) q h = (both (both h).0).0
 up_of g c past (Publish v) q h = (both (both h).0).0
 up_of g c past Finish q h = (both (both h).0).0
 up_of g c past Restart q h = absurd q
@@ -298,6 +305,7 @@ AllOpening c [] = ⊤
 AllOpening c (Stands _ _ _ ∷ es) = AllOpening c es
 AllOpening c (Carried t n ∷ es) = (n < c.max_failed) × AllOpening c es
 AllOpening c (Kept _ ∷ es) = AllOpening c es
+AllOpening c (Committing _ ∷ es) = AllOpening c es
 AllOpening c (_ ∷ es) = ⊥
 
 opening-append : (c : ConfValues) (xs ys : List Entry) → AllOpening c xs → AllOpening c ys → AllOpening c (xs ++ ys)
@@ -305,6 +313,7 @@ opening-append c [] ys h k = k
 opening-append c (Stands _ _ _ ∷ xs) ys h k = opening-append c xs ys h k
 opening-append c (Carried _ _ ∷ xs) ys h k = (h.0, opening-append c xs ys h.1 k)
 opening-append c (Kept _ ∷ xs) ys h k = opening-append c xs ys h k
+opening-append c (Committing _ ∷ xs) ys h k = opening-append c xs ys h k
 opening-append c (_ ∷ xs) ys h k = absurd h
 
 opening_stand : (g : Dag) (c : ConfValues) (past : Past) (x : ℕ × Config) → AllOpening c (stands_if g past x)
@@ -335,6 +344,7 @@ opening_open c past [] o h = o
 opening_open c past (Stands v t b ∷ es) o h = opening_open c (Stands v t b ∷ past) es refl h
 opening_open c past (Carried t n ∷ es) o h = opening_open c (Carried t n ∷ past) es refl h.1
 opening_open c past (Kept a ∷ es) o h = opening_open c (Kept a ∷ past) es refl h
+opening_open c past (Committing n ∷ es) o h = opening_open c (Committing n ∷ past) es refl h
 opening_open c past (_ ∷ es) o h = absurd h
 
 pub opening_carried : (c : ConfValues) (xs : List (TaskId × ℕ)) → find (λ x. nat_le c.max_failed x.1) xs ≡ None → AllOpening c (map (λ x. Carried x.0 x.1) xs)
@@ -353,6 +363,7 @@ opening_idle c past [] none h = none
 opening_idle c past (Stands v t b ∷ es) none h = opening_idle c (Stands v t b ∷ past) es none h
 opening_idle c past (Carried t n ∷ es) none h = opening_idle c (Carried t n ∷ past) es none h.1
 opening_idle c past (Kept a ∷ es) none h = opening_idle c (Kept a ∷ past) es none h
+opening_idle c past (Committing n ∷ es) none h = opening_idle c (Committing n ∷ past) es none h
 opening_idle c past (_ ∷ es) none h = absurd h
 
 stand_may : (g : Dag) (c : ConfValues) (past : Past) (x : ℕ × Config) → IsOpen past → AllMayFollow g c past (stands_if g past x)
@@ -402,6 +413,7 @@ opening_owes g c past [] o h = o
 opening_owes g c past (Stands v t b ∷ es) o h = (ap (λ os. Rattle.tez_history.specs.Rules.is_owed os (Stands v t b)) o, opening_owes g c (Stands v t b ∷ past) es refl h)
 opening_owes g c past (Carried t n ∷ es) o h = (ap (λ os. Rattle.tez_history.specs.Rules.is_owed os (Carried t n)) o, opening_owes g c (Carried t n ∷ past) es refl h.1)
 opening_owes g c past (Kept a ∷ es) o h = (ap (λ os. Rattle.tez_history.specs.Rules.is_owed os (Kept a)) o, opening_owes g c (Kept a ∷ past) es refl h)
+opening_owes g c past (Committing n ∷ es) o h = (ap (λ os. Rattle.tez_history.specs.Rules.is_owed os (Committing n)) o, opening_owes g c (Committing n ∷ past) es refl h)
 opening_owes g c past (_ ∷ es) o h = absurd h
 
 kept_goes : (past : Past) (a : AttemptId) → GoesOn past → GoesOn (Kept a ∷ past)
@@ -416,6 +428,7 @@ opening_goes c past [] o h = o
 opening_goes c past (Stands v t b ∷ es) o h = opening_goes c (Stands v t b ∷ past) es o h
 opening_goes c past (Carried t n ∷ es) o h = opening_goes c (Carried t n ∷ past) es o h.1
 opening_goes c past (Kept a ∷ es) o h = opening_goes c (Kept a ∷ past) es (kept_goes past a o) h
+opening_goes c past (Committing n ∷ es) o h = opening_goes c (Committing n ∷ past) es o h
 opening_goes c past (_ ∷ es) o h = absurd h
 
 few_carried : (c : ConfValues) (past : Past) (s : TaskId) (n : ℕ) → FewFailures c past → n < c.max_failed → FewFailures c (Carried s n ∷ past)
@@ -429,6 +442,7 @@ opening_stays g c past [] up few h = stays_none g c past up few
 opening_stays g c past (Stands v t b ∷ es) up few h = stays_after g c past (Stands v t b) es up few (opening_stays g c (Stands v t b ∷ past) es up few h)
 opening_stays g c past (Carried t n ∷ es) up few h = stays_after g c past (Carried t n) es up few (opening_stays g c (Carried t n ∷ past) es up (few_carried c past t n few h.0) h.1)
 opening_stays g c past (Kept a ∷ es) up few h = stays_after g c past (Kept a) es up few (opening_stays g c (Kept a ∷ past) es up few h)
+opening_stays g c past (Committing n ∷ es) up few h = stays_after g c past (Committing n) es up few (opening_stays g c (Committing n ∷ past) es up few h)
 opening_stays g c past (_ ∷ es) up few h = absurd h
 
 -- a first entry that starts the master, and those that follow it
@@ -470,11 +484,95 @@ standing_opening g c past x e =
     opening-append c stands (carried ++ kept) (opening_stands g c past x.configured)
     (opening-append c carried kept (opening_carried c x.failed e) (opening_kept g c (extend (extend past stands) carried) x.kept))
 
+-- ---- a commit that is taken up
+
+-- what the standing of a journal gives tells of no commit
+abbrev AllFound : List Entry → Type 0
+AllFound [] = ⊤
+AllFound (Stands _ _ _ ∷ es) = AllFound es
+AllFound (Carried _ _ ∷ es) = AllFound es
+AllFound (Kept _ ∷ es) = AllFound es
+AllFound (_ ∷ es) = ⊥
+
+found-append : (xs ys : List Entry) → AllFound xs → AllFound ys → AllFound (xs ++ ys)
+found-append [] ys h k = k
+found-append (Stands _ _ _ ∷ xs) ys h k = found-append xs ys h k
+found-append (Carried _ _ ∷ xs) ys h k = found-append xs ys h k
+found-append (Kept _ ∷ xs) ys h k = found-append xs ys h k
+found-append (_ ∷ xs) ys h k = absurd h
+
+found_each : {X : Type 0} (part : Past → X → List Entry) → ((past : Past) (x : X) → AllFound (part past x)) → (past : Past) (xs : List X) → AllFound (each_after part past xs)
+found_each part h past [] = tt
+found_each part h past (x ∷ xs) = found-append (part past x) (each_after part (extend past (part past x)) xs) (h past x) (found_each part h (extend past (part past x)) xs)
+
+found_if : (b : Bool) (e : Entry) → AllFound (e ∷ []) → AllFound (if b then e ∷ [] else [])
+found_if true e h = h
+found_if false e h = tt
+
+found_carried : (xs : List (TaskId × ℕ)) → AllFound (carried_entries xs)
+found_carried [] = tt
+found_carried (x ∷ xs) = found_carried xs
+
+standing_found : (g : Dag) (past : Past) (x : Standing) → AllFound (standing_entries g past x)
+standing_found g past x =
+    let stands = each_after (stands_if g) past x.configured in
+    let carried = carried_entries x.failed in
+    found-append stands (carried ++ each_after (kept_if g) (extend (extend past stands) carried) x.kept)
+    (found_each (stands_if g) (λ p y. found_if (is_none (config y.0 p) && is_vertex g y.0) (Stands (vertex y.0) y.1.tasks y.1.base) tt) past x.configured)
+    (found-append carried (each_after (kept_if g) (extend (extend past stands) carried) x.kept) (found_carried x.failed)
+    (found_each (kept_if g) (λ p a. found_if (is_task g p a.task) (Kept a) tt) (extend (extend past stands) carried) x.kept))
+
+found_step : (past : Past) (es : List Entry) → is_opening_step past ≡ true → AllFound es → is_opening_step (extend past es) ≡ true
+found_step past [] o h = o
+found_step past (Stands v t b ∷ es) o h = found_step (Stands v t b ∷ past) es o h
+found_step past (Carried t n ∷ es) o h = found_step (Carried t n ∷ past) es o h
+found_step past (Kept a ∷ es) o h = found_step (Kept a ∷ past) es o h
+found_step past (_ ∷ es) o h = absurd h
+
+at_most : (m n : ℕ) → nat_le m n ≡ true → m ≤ n
+at_most m n h = grind (arith, nat_tests)
+
+committing_may : (g : Dag) (c : ConfValues) (past : Past) (n : ℕ) → is_opening_step past ≡ true → AllMayFollow g c past (committing_if g past n)
+committing_may g c past n o = by (all_done g past) (nat_le (recorded past) n) refl refl where
+  by : (x y : Bool) → all_done g past ≡ x → nat_le (recorded past) n ≡ y → AllMayFollow g c past (if x && y then Committing n ∷ [] else [])
+  by true true d k = ((o, at_most (recorded past) n k, d), tt)
+  by true false d k = tt
+  by false y d k = tt
+
+opening_committing : (g : Dag) (c : ConfValues) (past : Past) (n : ℕ) → AllOpening c (committing_if g past n)
+opening_committing g c past n = by (all_done g past && nat_le (recorded past) n) where
+  by : (b : Bool) → AllOpening c (if b then Committing n ∷ [] else [])
+  by true = tt
+  by false = tt
+
+pub committed_opening : (g : Dag) (c : ConfValues) (past : Past) (x : Standing) (n : ℕ) → spent_in c x ≡ None → AllOpening c (committed_entries g past x n)
+committed_opening g c past x n e =
+    let es = standing_entries g past x in
+    opening-append c es (committing_if g (extend past es) n) (standing_opening g c past x e) (opening_committing g c (extend past es) n)
+
+pub committed_may : (g : Dag) (c : ConfValues) (past : Past) (x : Standing) (n : ℕ) → NoLive past → is_opening_step past ≡ true → IsOpen past → AllOpening c (carried_entries x.failed)
+    → AllMayFollow g c past (committed_entries g past x n)
+committed_may g c past x n none step o few =
+    let es = standing_entries g past x in
+    may-append g c past es (committing_if g (extend past es) n) (opening_may g c past x none o few) (committing_may g c (extend past es) n (found_step past es step (standing_found g past x)))
+
 opened_sound : (g : Dag) (c : ConfValues) (r : Run) (found : Found) → 1 ≤ c.max_failed → IsSound g c r → IsTrue (is_at_start r.past) → IsSound g c (opened_by g c r found)
 opened_sound g c r Begun some s at = sound_ended g c r Verdict.CommitOpen s
 opened_sound g c r AllDone some s at =
     start_sound g c r Over [] s at (at, tt) (ap (λ os. Rattle.tez_history.specs.Rules.is_owed os Over) s.settled, refl) (λ t l w. refl) refl refl
     (stays_none g c (Over ∷ r.past) refl (λ t. none_failed c some))
+opened_sound g c r (Committed x n) some s at = by (spent_in c x) refl where
+  by : (o : Option (TaskId × ℕ)) → spent_in c x ≡ o → IsSound g c (committed_unless g r x n o)
+  by (Some y) e = sound_ended g c r (Verdict.AttemptsSpent y.0) s
+  by None e =
+      let first = Opened (record { 0 = suc (max x.epoch (epoch r.past)) }) in
+      let p = opened_at x r.past in
+      let es = committed_entries g p x n in
+      start_sound g c r first es s at
+      ((at, above_both x.epoch (epoch r.past)), committed_may g c p x n (λ t. refl) refl refl (opening_carried c x.failed e))
+      (ap (λ os. Rattle.tez_history.specs.Rules.is_owed os first) s.settled, opening_owes g c p es refl (committed_opening g c p x n e))
+      (opening_goes c p es (λ t l w. refl) (committed_opening g c p x n e)) refl refl
+      (opening_stays g c p es refl (λ t. none_failed c some) (committed_opening g c p x n e))
 opened_sound g c r (Unfinished x) some s at = by (spent_in c x) refl where
   by : (o : Option (TaskId × ℕ)) → spent_in c x ≡ o → IsSound g c (opened_unless g r x o)
   by (Some y) e = sound_ended g c r (Verdict.AttemptsSpent y.0) s
@@ -510,6 +608,7 @@ stopped_sound g c r cause s v =
 took_sound : (g : Dag) (c : ConfValues) (r : Run) (e : CoreEvent) → IsSound g c r → r.verdict ≡ None → enabled g c r.past e ≡ true → IsSound g c (took g c r e)
 took_sound g c r Restart s v h = stopped_sound g c r Script s v
 took_sound g c r Open s v h = s
+took_sound g c r (Ask v) s _ h = s
 took_sound g c r Purge s v h =
     sound_end g c r Verdict.Whole (Purged ∷ []) s (event_may g c r.past Purge s.made h) (event_owes g c r.past Purge s.settled) (refl, tt) (alone_up g c r.past Purged (both {x = is_up r.past} h).0, tt)
 took_sound g c r (Fail a) s v h = fail_sound g c r a s v h
@@ -521,6 +620,12 @@ report_sound g c r a made s v h =
     sound_step g c r (done_entries a made) s (done_may g c r.past a made (both h).1) (done_owes g r.past a made s.settled) (done_going r.past a made (s.goes_on v))
     (quiet_stays g c r.past (done_entries a made) (both h).0 (s.few v) (quiet_made a made))
 
+answer_sound : (g : Dag) (c : ConfValues) (r : Run) (v : VertexId) (there : Bool) → IsSound g c r → r.verdict ≡ None → enabled g c r.past (Ask v) ≡ true
+    → IsSound g c (going_on r.past (asked_entries v there))
+answer_sound g c r v there s none h =
+    sound_step g c r (asked_entries v there) s (asked_may g c r.past v there h) (asked_owes g r.past s.settled v there) (asked_going r.past v there (s.goes_on none))
+    (quiet_stays g c r.past (asked_entries v there) (both {x = is_up r.past} (both {x = is_running r.past} h).0).0 (s.few none) (quiet_asked v there))
+
 happens_to_sound : (g : Dag) (c : ConfValues) (r : Run) (x : Happening) → 1 ≤ c.max_failed → IsSound g c r → r.verdict ≡ None → IsSound g c (happens_to g c r x)
 happens_to_sound g c r (Event e) some s v = by (enabled g c r.past e) refl where
   by : (b : Bool) → enabled g c r.past e ≡ b → IsSound g c (if b then took g c r e else r)
@@ -529,6 +634,10 @@ happens_to_sound g c r (Event e) some s v = by (enabled g c r.past e) refl where
 happens_to_sound g c r (Report a made) some s v = by (is_up r.past && is_processing (stage a r.past)) refl where
   by : (b : Bool) → (is_up r.past && is_processing (stage a r.past)) ≡ b → IsSound g c (if b then going_on r.past (done_entries a made) else r)
   by true h = report_sound g c r a made s v h
+  by false h = s
+happens_to_sound g c r (Answer v there) some s none = by (enabled g c r.past (Ask v)) refl where
+  by : (b : Bool) → enabled g c r.past (Ask v) ≡ b → IsSound g c (if b then going_on r.past (asked_entries v there) else r)
+  by true h = answer_sound g c r v there s none h
   by false h = s
 happens_to_sound g c r (Stop cause) some s v = stopped_sound g c r cause s v
 happens_to_sound g c r (Start found) some s v = by (not (is_up r.past)) refl where

@@ -1,19 +1,16 @@
--- Sinks are published in their order.
-use Rattle.std.specs.Prelude.{◌≡◌, ◌⊎◌, ℕ, zero, suc, ◌<◌, ◌==◌, ◌&&◌, ◌||◌, not, nat_lt, Bool, true, false, ⊤, if◌then◌else◌, List, [], ◌∷◌, length, refl}
-use Rattle.std.specs.List.{filter, list_any, list_all}
+-- Numbers that rise, the sinks among them: the first without a property, the one at a place, and how many come before it.
+use Rattle.std.specs.Prelude.{◌≡◌, ◌⊎◌, ℕ, zero, suc, ◌<◌, ◌==◌, ◌&&◌, nat_lt, Bool, true, false, ⊤, if◌then◌else◌, List, [], ◌∷◌, length, slice_get, Option, Some, None, option_and_then, refl}
+use Rattle.std.specs.List.{filter, find, list_any, list_all}
+use Rattle.std.specs.Option.{option_map_or}
 use Rattle.std.proofs.Common.{inl, inr, ap, sym, ◌∙◌, arith, subst}
 use Rattle.std.proofs.lemmas.Bool.{eqb-true}
 use Rattle.std.proofs.lemmas.Bool.Decides.{nat_tests}
+use Rattle.std.proofs.lemmas.Option.{same_Some}
 use Rattle.tez_lists.specs.Numbers.{numbers_from, In}
 use Rattle.tez_lists.proofs.Flat.{in-filter-out}
 use Rattle.tez_plan.specs.Dag.{Dag}
-use Rattle.tez_conf.specs.declared.values.ConfValues.{ConfValues}
-use Rattle.tez_events.specs.declared.Entry.TheVariants.{Published}
 use Rattle.tez_history.specs.Shape.{vertices, is_vertex, has_sink, sinks}
-use Rattle.tez_history.specs.History.{Past, is_published}
 use Rattle.tez_history.specs.Steps.{is_first_without}
-use Rattle.tez_history.specs.Rules.{is_next_sink}
-use Rattle.tez_history.specs.Follows.{IsMade}
 use Rattle.tez_laws.proofs.Opening.{all_hold}
 use Rattle.tez_laws.proofs.Feeding.{from-below}
 
@@ -74,9 +71,59 @@ had_before has (x ∷ xs) v u r h i low = by (has x) refl h i (had_before has xs
   by false e k (inl s) ih = let same : x ≡ v = eqb-true x v k in absurd (omega (arith, low, s, same))
   by false e k (inr j) ih = let same : x ≡ v = eqb-true x v k in let over : x < u = above_in x u xs r.0 j in absurd (omega (arith, low, same, over))
 
+-- ---- the one at a place
+
+above_at : (n : ℕ) (xs : List ℕ) (k v : ℕ) → AllAbove n xs → slice_get xs k ≡ Some v → n < v
+above_at n [] k v a h = cc
+above_at n (x ∷ xs) zero v a h = let same : x ≡ v = same_Some x v h in subst (λ y. n < y) same a.0
+above_at n (x ∷ xs) (suc k) v a h = above_at n xs k v a.1 h
+
+none_before : (n : ℕ) (xs : List ℕ) → AllAbove n xs → length (filter (λ w. nat_lt w n) xs) ≡ 0
+none_before n [] a = refl
+none_before n (x ∷ xs) a = let low : nat_lt x n ≡ false = (let over : n < x = a.0 in grind (arith, nat_tests)) in ap (λ b. length (if b then x ∷ filter (λ w. nat_lt w n) xs else filter (λ w. nat_lt w n) xs)) low ∙ none_before n xs a.1
+
+pub before_at : (xs : List ℕ) (k v : ℕ) → Rises xs → slice_get xs k ≡ Some v → length (filter (λ w. nat_lt w v) xs) ≡ k
+before_at [] k v r h = cc
+before_at (x ∷ xs) zero v r h =
+    let same : x ≡ v = same_Some x v h in
+    let here : nat_lt x x ≡ false = grind (arith, nat_tests) in
+    subst (λ y. length (filter (λ w. nat_lt w y) (x ∷ xs)) ≡ 0) same
+    (ap (λ b. length (if b then x ∷ filter (λ w. nat_lt w x) xs else filter (λ w. nat_lt w x) xs)) here ∙ none_before x xs r.0)
+before_at (x ∷ xs) (suc k) v r h =
+    let over : x < v = above_at x xs k v r.0 h in
+    let low : nat_lt x v ≡ true = grind (arith, nat_tests) in
+    ap (λ b. length (if b then x ∷ filter (λ w. nat_lt w v) xs else filter (λ w. nat_lt w v) xs)) low ∙ ap suc (before_at xs k v r.1 h)
+
+-- ---- the first that is at a place and passes a test
+
+abbrev is_at : Option ℕ → ℕ → Bool
+is_at o v = option_map_or (λ w. w == v) o false
+
+abbrev passing : (ℕ → Bool) → Option ℕ → Option ℕ
+passing t o = option_and_then (λ v. if t v then Some v else None) o
+
+nowhere : (t : ℕ → Bool) (x : ℕ) (xs : List ℕ) → AllAbove x xs → find (λ v. (x == v) && t v) xs ≡ None
+nowhere t x [] a = refl
+nowhere t x (y ∷ ys) a =
+    let other : (x == y) ≡ false = (let over : x < y = a.0 in grind (arith, nat_tests)) in
+    ap (λ b. if b && t y then Some y else find (λ v. (x == v) && t v) ys) other ∙ nowhere t x ys a.1
+
+pub find_at : (t : ℕ → Bool) (xs : List ℕ) (k : ℕ) → Rises xs → find (λ v. is_at (slice_get xs k) v && t v) xs ≡ passing t (slice_get xs k)
+find_at t [] k r = refl
+find_at t (x ∷ xs) zero r =
+    let itself : (x == x) ≡ true = grind (arith, nat_tests) in
+    ap (λ b. if b && t x then Some x else find (λ v. (x == v) && t v) xs) itself ∙ by (t x) where
+      by : (b : Bool) → (if b then Some x else find (λ v. (x == v) && t v) xs) ≡ (if b then Some x else None)
+      by true = refl
+      by false = nowhere t x xs r.0
+find_at t (x ∷ xs) (suc k) r = ap (λ b. if b && t x then Some x else find (λ v. is_at (slice_get xs k) v && t v) xs) (by (slice_get xs k) refl) ∙ find_at t xs k r.1 where
+  by : (o : Option ℕ) → slice_get xs k ≡ o → is_at o x ≡ false
+  by None e = refl
+  by (Some w) e = let over : x < w = above_at x xs k w r.0 e in grind (arith, nat_tests)
+
 -- ---- sinks
 
-passes-filter : (p : ℕ → Bool) (x : ℕ) (xs : List ℕ) → In x (filter p xs) → p x ≡ true
+pub passes-filter : (p : ℕ → Bool) (x : ℕ) (xs : List ℕ) → In x (filter p xs) → p x ≡ true
 passes-filter p x [] h = absurd h
 passes-filter p x (y ∷ ys) h = by (p y) refl h (passes-filter p x ys) where
   by : (b : Bool) → p y ≡ b → In x (if b then y ∷ filter p ys else filter p ys) → (In x (filter p ys) → p x ≡ true) → p x ≡ true
@@ -84,45 +131,15 @@ passes-filter p x (y ∷ ys) h = by (p y) refl h (passes-filter p x ys) where
   by true e (inr i) ih = ih i
   by false e i ih = ih i
 
-sinks_rise : (g : Dag) → Rises (sinks g)
+pub sinks_rise : (g : Dag) → Rises (sinks g)
 sinks_rise g = rises_filter (has_sink g) (vertices g) (numbers_rise 0 (length g.vertices))
 
 pub sink_is_vertex : (g : Dag) (v : ℕ) → In v (sinks g) → is_vertex g v ≡ true
 sink_is_vertex g v h = let below : v < length g.vertices = from-below (length g.vertices) v (in-filter-out (has_sink g) v (vertices g) h) in grind (arith, nat_tests)
 
--- a sink is published only where those before it are
-pub published_before : (g : Dag) (c : ConfValues) (past : Past) → IsMade g c past → (w u : ℕ) → is_published w past ≡ true → u < w → In u (sinks g) → is_published u past ≡ true
-published_before g c [] m w u h low i = cc
-published_before g c (Published v ∷ past) m w u h low i =
-    by (v.0 == w) refl h (λ k. published_before g c past m.1 w u k low i) where
-      or_true : (x : Bool) (y : Bool) → y ≡ true → (x || y) ≡ true
-      or_true true y e = refl
-      or_true false y e = e
-
-      by : (b : Bool) → (v.0 == w) ≡ b → (b || is_published w past) ≡ true → (is_published w past ≡ true → is_published u past ≡ true) → ((v.0 == u) || is_published u past) ≡ true
-      by true e k ih =
-          let same : v.0 ≡ w = eqb-true v.0 w e in
-          or_true (v.0 == u) (is_published u past) (had_before (λ x. is_published x past) (sinks g) v.0 u (sinks_rise g) m.0.1 i (subst (λ x. u < x) (sym same) low))
-      by false e k ih = or_true (v.0 == u) (is_published u past) (ih k)
-published_before g c (_ ∷ past) m w u h low i = published_before g c past m.1 w u h low i
-
 pub none_pass : {X : Type 0} (p : X → Bool) (xs : List X) → ((x : X) → In x xs → p x ≡ false) → list_any p xs ≡ false
 none_pass p [] h = refl
 none_pass p (x ∷ xs) h = rw (h x (inl refl), none_pass p xs (λ y i. h y (inr i))) refl
-
-later_not : (g : Dag) (c : ConfValues) (past : Past) → IsMade g c past → (v w : ℕ) → In v (sinks g) → is_published v past ≡ false → (nat_lt v w && is_published w past) ≡ false
-later_not g c past m v w i free = by (nat_lt v w) (is_published w past) refl refl where
-  by : (x y : Bool) → nat_lt v w ≡ x → is_published w past ≡ y → (x && y) ≡ false
-  by true true low e = let was : is_published v past ≡ true = published_before g c past m w v e (let below : v < w = grind (arith, nat_tests) in below) i in cc
-  by true false low e = refl
-  by false y low e = refl
-
-pub next_sink : (g : Dag) (c : ConfValues) (past : Past) (v : ℕ) → IsMade g c past → is_first_without (λ w. is_published w past) (sinks g) v ≡ true → is_next_sink g past v ≡ true
-next_sink g c past v m h =
-    let k = first_in (λ w. is_published w past) (sinks g) v h in
-    all_hold (has_sink g v) _ (passes-filter (has_sink g) v (vertices g) k.0)
-    (all_hold (not (is_published v past)) _ (ap not k.1)
-    (ap not (none_pass (λ w. nat_lt v w && is_published w past) (sinks g) (λ w i. later_not g c past m v w k.0 k.1))))
 
 -- ---- a test that all pass where a stronger one does
 

@@ -7,20 +7,20 @@ use Rattle.tez_events.specs.declared.StopCause.{StopCause}
 use Rattle.tez_events.specs.declared.Entry.{Entry}
 use Rattle.tez_events.specs.declared.Entry.TheVariants.{Opened, Over, Stands, Carried, Failed, Stopped, Purged}
 use Rattle.tez_events.specs.declared.CoreEvent.{CoreEvent}
-use Rattle.tez_events.specs.declared.CoreEvent.TheVariants.{Open, Fail, Restart, Purge}
+use Rattle.tez_events.specs.declared.CoreEvent.TheVariants.{Open, Fail, Restart, Ask, Purge}
 use Rattle.tez_history.specs.History.{Past, epoch, extend, stage, failures}
 use Rattle.tez_history.specs.Derived.{is_processing}
-use Rattle.tez_history.specs.Steps.{enabled, entries_of, requeue, done_entries}
+use Rattle.tez_history.specs.Steps.{enabled, entries_of, requeue, done_entries, asked_entries}
 use Rattle.tez_history.specs.Rules.{owed, is_at_start}
 use Rattle.tez_history.specs.Follows.{IsMade}
-use Rattle.tez_history.specs.Runs.{Standing, Happening, opened_at, standing_entries, spent_in, run, not_begun}
-use Rattle.tez_laws.specs.Laws.{GoesOn, SpendsNot, FewFailures, Sound}
-use Rattle.tez_laws.proofs.StepLaw.{made-extend, event_may, done_may}
-use Rattle.tez_laws.proofs.Withdrawals.{event_owes, done_owes}
-use Rattle.tez_laws.proofs.Going.{event_going, done_going}
+use Rattle.tez_history.specs.Runs.{Standing, Happening, opened_at, standing_entries, committed_entries, spent_in, run, not_begun}
+use Rattle.tez_laws.specs.Laws.{GoesOn, SpendsNot, FewFailures, Sound, AnswersKeep, IsSoundTakenUp}
+use Rattle.tez_laws.proofs.StepLaw.{made-extend, event_may, done_may, asked_may}
+use Rattle.tez_laws.proofs.Withdrawals.{event_owes, done_owes, asked_owes}
+use Rattle.tez_laws.proofs.Going.{event_going, done_going, asked_going}
 use Rattle.tez_laws.proofs.Feeding.{inputs_inside}
 use Rattle.tez_laws.proofs.Listed.{tasks_order, live_listed, winner_listed}
-use Rattle.tez_laws.proofs.RunLaw.{AllQuiet, quiet_event, quiet_made, owes-settled, few_failed, not_spent, standing_opening, opening_may, opening_owes, opening_goes, opening_stays, opening_carried, none_failed, above_both, run_sound}
+use Rattle.tez_laws.proofs.RunLaw.{AllQuiet, quiet_event, quiet_made, quiet_asked, owes-settled, few_failed, not_spent, standing_opening, committed_opening, committed_may, opening_may, opening_owes, opening_goes, opening_stays, opening_carried, none_failed, above_both, run_sound}
 
 sound_of : (g : Dag) (c : ConfValues) (past : Past) → IsMade g c past → owed g past ≡ [] → GoesOn past → FewFailures c past → Sound g c past
 sound_of g c past made settled going few =
@@ -56,6 +56,7 @@ few_quiet c past (e ∷ es) few h = few_quiet c (e ∷ past) es few h
 few_event : (g : Dag) (c : ConfValues) (past : Past) (e : CoreEvent) → SpendsNot c past e → FewFailures c past → FewFailures c (extend past (entries_of g c past e))
 few_event g c past Restart n few = few
 few_event g c past Open n few = few
+few_event g c past (Ask v) n few = few
 few_event g c past Purge n few = few
 few_event g c past (Fail a) n few = by (nat_le c.max_failed (suc (failures a.task past))) where
   by : (b : Bool) → FewFailures c (extend past (Failed a ∷ (if b then [] else requeue past a.task)))
@@ -75,6 +76,12 @@ report_sound g c past a made s h =
     sound_of g c (extend past es) (made-extend g c past es s.made (done_may g c past a made h)) (owes-settled g past es (done_owes g past a made s.settled)) (done_going past a made s.goes_on)
     (few_quiet c past es s.few (quiet_made a made))
 
+pub answer_sound : (g : Dag) (c : ConfValues) → AnswersKeep g c (Sound g c)
+answer_sound g c past v there s h =
+    let es = asked_entries v there in
+    sound_of g c (extend past es) (made-extend g c past es s.made (asked_may g c past v there h)) (owes-settled g past es (asked_owes g past s.settled v there)) (asked_going past v there s.goes_on)
+    (few_quiet c past es s.few (quiet_asked v there))
+
 -- ---- stops and new masters
 
 pub stop_sound : (g : Dag) (c : ConfValues) (past : Past) (cause : StopCause) → Sound g c past → Sound g c (Stopped cause ∷ past)
@@ -90,4 +97,12 @@ open_sound g c past x some s at unspent =
     let es = standing_entries g p x in
     let opening = standing_opening g c p x unspent in
     sound_of g c (extend p es) (made-extend g c p es ((at, above_both x.epoch (epoch past)), s.made) (opening_may g c p x (λ t. refl) refl (opening_carried c x.failed unspent)))
+    (owes-settled g p es (opening_owes g c p es refl opening)) (opening_goes c p es (λ t l w. refl) opening) (opening_stays g c p es refl (λ t. none_failed c some) opening).few
+
+pub taken_sound : (g : Dag) (c : ConfValues) (past : Past) (x : Standing) (n : ℕ) → IsSoundTakenUp g c past x n
+taken_sound g c past x n some s at unspent =
+    let p = opened_at x past in
+    let es = committed_entries g p x n in
+    let opening = committed_opening g c p x n unspent in
+    sound_of g c (extend p es) (made-extend g c p es ((at, above_both x.epoch (epoch past)), s.made) (committed_may g c p x n (λ t. refl) refl refl (opening_carried c x.failed unspent)))
     (owes-settled g p es (opening_owes g c p es refl opening)) (opening_goes c p es (λ t l w. refl) opening) (opening_stays g c p es refl (λ t. none_failed c some) opening).few

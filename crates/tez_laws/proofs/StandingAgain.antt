@@ -9,20 +9,20 @@ use Rattle.tez_conf.specs.declared.values.ConfValues.{ConfValues}
 use Rattle.tez_vman.specs.declared.seen.Config.{Config}
 use Rattle.tez_vman.specs.Rules.{config as shape}
 use Rattle.tez_events.specs.declared.Entry.{Entry}
-use Rattle.tez_events.specs.declared.Entry.TheVariants.{Opened, Over, Stands, Carried, Kept, Configured, Failed, Stopped, Purged}
+use Rattle.tez_events.specs.declared.Entry.TheVariants.{Opened, Over, Stands, Carried, Kept, Configured, Failed, Stopped, Committing, Purged}
 use Rattle.tez_events.specs.declared.CoreEvent.{CoreEvent}
-use Rattle.tez_events.specs.declared.CoreEvent.TheVariants.{Open, Fail, Restart, Purge}
+use Rattle.tez_events.specs.declared.CoreEvent.TheVariants.{Open, Fail, Restart, Ask, Purge}
 use Rattle.tez_history.specs.Shape.{is_vertex}
-use Rattle.tez_history.specs.History.{Past, config, extend, stage, is_up, failures}
-use Rattle.tez_history.specs.Derived.{is_task, is_processing}
-use Rattle.tez_history.specs.Steps.{each_after, enabled, entries_of, requeue, done_entries}
+use Rattle.tez_history.specs.History.{Past, config, extend, stage, is_up, failures, recorded}
+use Rattle.tez_history.specs.Derived.{is_task, is_processing, all_done}
+use Rattle.tez_history.specs.Steps.{each_after, enabled, entries_of, requeue, done_entries, asked_entries}
 use Rattle.tez_history.specs.Rules.{agrees, last_config, configs_right}
-use Rattle.tez_history.specs.Runs.{Standing, Run, Verdict, Found, Unfinished, AllDone, Begun, Happening, Event, Report, Stop, Start, stands_if, kept_if, carried_entries, opened_at, standing_entries, spent_in, opened_unless, opened_by, going_on, verdict_after, took, happens_to, happens, run, not_begun}
+use Rattle.tez_history.specs.Runs.{Standing, Run, Verdict, Found, Unfinished, AllDone, Committed, Begun, Happening, Event, Report, Answer, Stop, Start, stands_if, kept_if, carried_entries, opened_at, standing_entries, committing_if, committed_entries, spent_in, opened_unless, committed_unless, opened_by, going_on, verdict_after, took, happens_to, happens, run, not_begun}
 use Rattle.tez_laws.specs.Laws.{Obeys, configured_right, stands_again, FindsAgreeing, AllFindAgreeing}
 use Rattle.tez_laws.proofs.Opening.{all_hold}
 use Rattle.tez_laws.proofs.StepLaw.{both}
 use Rattle.tez_laws.proofs.Obeying.{configs_obeyed}
-use Rattle.tez_laws.proofs.RunLaw.{Passes, passes-append, obeys-extend, AllQuiet, quiet_event, quiet_made, run_sound}
+use Rattle.tez_laws.proofs.RunLaw.{Passes, passes-append, obeys-extend, AllQuiet, quiet_event, quiet_made, quiet_asked, run_sound}
 
 -- ---- entries that are no such configuration
 
@@ -50,6 +50,7 @@ quiet_new (_ ∷ es) h = quiet_new es h
 event_new : (g : Dag) (c : ConfValues) (past : Past) (e : CoreEvent) → AllNew (entries_of g c past e)
 event_new g c past Restart = tt
 event_new g c past Open = tt
+event_new g c past (Ask v) = tt
 event_new g c past Purge = tt
 event_new g c past (Fail a) = by (nat_le c.max_failed (suc (failures a.task past))) where
   by : (b : Bool) → AllNew (Failed a ∷ (if b then [] else requeue past a.task))
@@ -110,6 +111,19 @@ standing_passes g c past s finds =
     passes-append stands_again g c p stands (carried ++ kept) (stands_pass g c past p s.configured finds (λ v h. refl))
     (new_passes g c (extend p stands) (carried ++ kept) (new-append carried kept (carried_new s.failed) (kept_new g (extend (extend p stands) carried) s.kept)))
 
+committing_new : (g : Dag) (past : Past) (n : ℕ) → AllNew (committing_if g past n)
+committing_new g past n = by (all_done g past && nat_le (recorded past) n) where
+  by : (b : Bool) → AllNew (if b then Committing n ∷ [] else [])
+  by true = tt
+  by false = tt
+
+committed_passes : (g : Dag) (c : ConfValues) (past : Past) (s : Standing) (n : ℕ) → FindsAgreeing past (Start (Unfinished s)) → Passes stands_again g c (opened_at s past) (committed_entries g (opened_at s past) s n)
+committed_passes g c past s n finds =
+    let p = opened_at s past in
+    let es = standing_entries g p s in
+    passes-append stands_again g c p es (committing_if g (extend p es) n) (standing_passes g c past s finds)
+    (new_passes g c (extend p es) (committing_if g (extend p es) n) (committing_new g (extend p es) n))
+
 -- ---- runs
 
 abbrev Again : Dag → ConfValues → Run → Type 0
@@ -121,11 +135,16 @@ again_after g c r o es new k = obeys-extend stands_again g c r.past es k (new_pa
 again_took : (g : Dag) (c : ConfValues) (r : Run) (e : CoreEvent) → Again g c r → Again g c (took g c r e)
 again_took g c r Restart k = (refl, k)
 again_took g c r Open k = k
+again_took g c r (Ask v) k = k
 again_took g c r e k = again_after g c r (verdict_after c r.past e) (entries_of g c r.past e) (event_new g c r.past e) k
 
 again_opened : (g : Dag) (c : ConfValues) (r : Run) (found : Found) → FindsAgreeing r.past (Start found) → Again g c r → Again g c (opened_by g c r found)
 again_opened g c r Begun finds k = k
 again_opened g c r AllDone finds k = (refl, k)
+again_opened g c r (Committed x n) finds k = by (spent_in c x) where
+  by : (o : Option (TaskId × ℕ)) → Again g c (committed_unless g r x n o)
+  by (Some y) = k
+  by None = obeys-extend stands_again g c (opened_at x r.past) (committed_entries g (opened_at x r.past) x n) (refl, k) (committed_passes g c r.past x n finds)
 again_opened g c r (Unfinished x) finds k = by (spent_in c x) where
   by : (o : Option (TaskId × ℕ)) → Again g c (opened_unless g r x o)
   by (Some y) = k
@@ -139,6 +158,10 @@ again_happens_to g c r (Event e) finds k = by (enabled g c r.past e) where
 again_happens_to g c r (Report a made) finds k = by (is_up r.past && is_processing (stage a r.past)) where
   by : (b : Bool) → Again g c (if b then going_on r.past (done_entries a made) else r)
   by true = again_after g c r None (done_entries a made) (quiet_new (done_entries a made) (quiet_made a made)) k
+  by false = k
+again_happens_to g c r (Answer v there) finds k = by (enabled g c r.past (Ask v)) where
+  by : (b : Bool) → Again g c (if b then going_on r.past (asked_entries v there) else r)
+  by true = again_after g c r None (asked_entries v there) (quiet_new (asked_entries v there) (quiet_asked v there)) k
   by false = k
 again_happens_to g c r (Stop cause) finds k = (refl, k)
 again_happens_to g c r (Start found) finds k = by (not (is_up r.past)) where

@@ -13,15 +13,15 @@ use Rattle.tez_events.specs.declared.KillCause.TheVariants.{Node, Preempt as Pre
 use Rattle.tez_events.specs.declared.Entry.{Entry}
 use Rattle.tez_events.specs.declared.Entry.TheVariants.{Configured, Fetched, ReadError, InputFailed, Succeeded, Made, Failed, Killed, NodeLost, Rerun, Stopped}
 use Rattle.tez_events.specs.declared.CoreEvent.{CoreEvent}
-use Rattle.tez_events.specs.declared.CoreEvent.TheVariants.{Open, Configure, Queue, Place, Fetch, Send, Preempt, Fail, LoseNode, LoseOutput, Restart, Ready, CommitStart, Publish, Finish, Purge}
+use Rattle.tez_events.specs.declared.CoreEvent.TheVariants.{Open, Configure, Queue, Place, Fetch, Send, Preempt, Fail, LoseNode, LoseOutput, Restart, Ready, CommitStart, Ask, Publish, Finish, Purge}
 use Rattle.tez_ids.specs.Same.{same_task}
 use Rattle.tez_plan.specs.Dag.{Dag, edge}
 use Rattle.tez_conf.specs.declared.values.ConfValues.{ConfValues}
 use Rattle.tez_history.specs.Shape.{is_vertex, places}
-use Rattle.tez_history.specs.History.{Past, extend, Stage, Unknown, InQueue, Waits, Runs, Ended, stage, live, winner, freed, holder, is_up, life, failures, is_scheduled, is_fetched, is_committing, config}
-use Rattle.tez_history.specs.Derived.{is_task, Input, tasks, is_queued, is_waiting, is_processing, notices, notices_of, inputs, next_attempt, places_on, is_on_node, is_on_shelf, waiting_attempts, source_of_input, has_fetched, configures, any_free}
-use Rattle.tez_history.specs.Steps.{may_queue, enabled, is_running, entries_of, each_after, requeue, is_winner_on_shelf, withdrawal, killed_by_node, kill_at, withdrawn_if, withdraw_lost, node_kills, node_withdrawals, fetch_entries, winner_of_input, winner_behind, input_at, output_lost_entries, done_entries}
-use Rattle.tez_history.specs.Follows.{IsAlive, IsOpen, MayFollow, IsMade, AllMayFollow}
+use Rattle.tez_history.specs.History.{Past, extend, Stage, Unknown, InQueue, Waits, Runs, Ended, stage, live, winner, freed, holder, is_up, life, failures, is_scheduled, is_fetched, is_committing, is_found, was_asked, config}
+use Rattle.tez_history.specs.Derived.{is_task, Input, tasks, is_queued, is_waiting, is_processing, notices, notices_of, inputs, next_attempt, places_on, is_on_node, is_on_shelf, waiting_attempts, source_of_input, has_fetched, configures, any_free, next_sink, is_next}
+use Rattle.tez_history.specs.Steps.{may_queue, enabled, is_running, entries_of, each_after, requeue, is_winner_on_shelf, withdrawal, killed_by_node, kill_at, withdrawn_if, withdraw_lost, node_kills, node_withdrawals, fetch_entries, winner_of_input, winner_behind, input_at, output_lost_entries, done_entries, asked_entries}
+use Rattle.tez_history.specs.Follows.{IsAlive, IsOpen, MayBeAsked, MayFollow, IsMade, AllMayFollow}
 use Rattle.tez_laws.proofs.Same.{same_task-refl, same_attempt-refl}
 use Rattle.tez_laws.proofs.OneLive.{one_live, running_alive, placed_alive, killed_placed}
 use Rattle.tez_laws.proofs.Tasks.{winner_task, unscheduled, no_both}
@@ -258,6 +258,10 @@ no_config : (o : Option Config) → is_none o ≡ true → o ≡ None
 no_config None h = refl
 no_config (Some x) h = cc
 
+no_sink : (o : Option ℕ) → is_none o ≡ true → o ≡ None
+no_sink None h = refl
+no_sink (Some v) h = cc
+
 running_open : (past : Past) (x : Bool) → (is_running past && x) ≡ true → IsOpen past
 running_open past x h = up_open past (both {x = is_up past} (both {x = is_running past} h).0).0
 
@@ -281,10 +285,11 @@ event_may g c past (Fail a) m h = fail_may g c past a (nat_le c.max_failed (suc 
 event_may g c past (LoseNode slot) m h = loss_may g c past slot (is_committing past) m (below slot c.nodes (both h).1) (up_open past (both {x = is_up past} h).0)
 event_may g c past (LoseOutput t) m h = output_may g c past t (winner t past) refl (both h).1
 event_may g c past Restart m h = (tt, tt)
-event_may g c past (Ready v) m h = let k = both (both h).1 in ((k.0, not_true (is_committing past) (both k.1).0, (both k.1).1, running_open past _ h), tt)
+event_may g c past (Ready v) m h = let k = both (both h).1 in ((k.0, k.1, running_open past _ h), tt)
 event_may g c past CommitStart m h = let k = both (both h).1 in ((not_true (is_committing past) k.0, k.1, running_open past _ h), tt)
-event_may g c past (Publish v) m h = let k = both (both h).1 in ((k.0, k.1), tt)
-event_may g c past Finish m h = let k = both (both h).1 in ((k.0, k.1), tt)
+event_may g c past (Ask v) m h = tt
+event_may g c past (Publish v) m h = ((both h).1, tt)
+event_may g c past Finish m h = let k = both (both h).1 in ((k.0, no_sink (next_sink g past) k.1), tt)
 event_may g c past Purge m h = (((both h).1, up_open past (both {x = is_up past} h).0), tt)
 
 -- a report of a processing attempt too
@@ -294,3 +299,10 @@ makes g c past a (x ∷ xs) o = (o, makes g c (Made a (edge x.0) x.1 ∷ past) a
 
 pub done_may : (g : Dag) (c : ConfValues) (past : Past) (a : AttemptId) (made : List (ℕ × ℕ)) → IsTrue (is_processing (stage a past)) → AllMayFollow g c past (done_entries a made)
 done_may g c past a made runs = (runs, makes g c (Succeeded a ∷ past) a made refl)
+
+-- and what the store answers of a sink that the master may ask of
+pub asked_may : (g : Dag) (c : ConfValues) (past : Past) (v : VertexId) (there : Bool) → enabled g c past (Ask v) ≡ true → AllMayFollow g c past (asked_entries v there)
+asked_may g c past v there h = by there (let k = both {x = is_found past} (both {x = is_running past} h).1 in (k.0, (both {x = is_next g past v.0} k.1).0, not_true (was_asked v.0 past) (both {x = is_next g past v.0} k.1).1)) where
+  by : (b : Bool) → MayBeAsked g past v.0 → AllMayFollow g c past (asked_entries v b)
+  by true k = (k, tt)
+  by false k = (k, tt)

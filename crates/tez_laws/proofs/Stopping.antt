@@ -8,18 +8,18 @@ use Rattle.tez_conf.specs.declared.values.ConfValues.{ConfValues}
 use Rattle.tez_events.specs.declared.StopCause.{StopCause}
 use Rattle.tez_events.specs.declared.StopCause.TheVariants.{Script}
 use Rattle.tez_events.specs.declared.Entry.{Entry}
-use Rattle.tez_events.specs.declared.Entry.TheVariants.{Opened, Over, Stands, Carried, Kept, Failed, Stopped, Purged}
+use Rattle.tez_events.specs.declared.Entry.TheVariants.{Opened, Over, Stands, Carried, Kept, Failed, Stopped, Committing, Purged}
 use Rattle.tez_events.specs.declared.CoreEvent.{CoreEvent}
-use Rattle.tez_events.specs.declared.CoreEvent.TheVariants.{Open, Fail, Restart, Purge}
+use Rattle.tez_events.specs.declared.CoreEvent.TheVariants.{Open, Fail, Restart, Ask, Purge}
 use Rattle.tez_history.specs.History.{Past, epoch, extend, stage, is_up, failures, stops}
 use Rattle.tez_history.specs.Derived.{is_processing}
-use Rattle.tez_history.specs.Steps.{enabled, entries_of, requeue, done_entries}
+use Rattle.tez_history.specs.Steps.{enabled, entries_of, requeue, done_entries, asked_entries}
 use Rattle.tez_history.specs.Rules.{is_above_last_epoch, start_right, stops_right}
 use Rattle.tez_history.specs.Follows.{MayFollow, IsMade}
-use Rattle.tez_history.specs.Runs.{Run, Verdict, Found, Unfinished, AllDone, Begun, Happening, Event, Report, Stop, Start, opened_at, standing_entries, spent_in, opened_unless, opened_by, going_on, stopped, took, happens_to, happens, run, not_begun}
+use Rattle.tez_history.specs.Runs.{Run, Verdict, Found, Unfinished, AllDone, Committed, Begun, Happening, Event, Report, Answer, Stop, Start, opened_at, standing_entries, committed_entries, spent_in, opened_unless, committed_unless, opened_by, going_on, stopped, took, happens_to, happens, run, not_begun}
 use Rattle.tez_laws.specs.Laws.{Obeys}
 use Rattle.tez_laws.proofs.Opening.{all_hold, starts_follow}
-use Rattle.tez_laws.proofs.RunLaw.{AllQuiet, quiet_event, quiet_made, AllOpening, standing_opening, run_sound}
+use Rattle.tez_laws.proofs.RunLaw.{AllQuiet, quiet_event, quiet_made, quiet_asked, AllOpening, standing_opening, committed_opening, run_sound}
 
 -- ---- entries that are no stops
 
@@ -49,6 +49,7 @@ opening_unstopped c [] h = tt
 opening_unstopped c (Stands _ _ _ ∷ es) h = opening_unstopped c es h
 opening_unstopped c (Carried _ _ ∷ es) h = opening_unstopped c es h.1
 opening_unstopped c (Kept _ ∷ es) h = opening_unstopped c es h
+opening_unstopped c (Committing _ ∷ es) h = opening_unstopped c es h
 opening_unstopped c (_ ∷ es) h = absurd h
 
 abbrev IsNoStop : CoreEvent → Type 0
@@ -58,6 +59,7 @@ IsNoStop _ = ⊤
 event_unstopped : (g : Dag) (c : ConfValues) (past : Past) (e : CoreEvent) → IsNoStop e → AllUnstopped (entries_of g c past e)
 event_unstopped g c past Restart h = absurd h
 event_unstopped g c past Open h = tt
+event_unstopped g c past (Ask v) h = tt
 event_unstopped g c past Purge h = tt
 event_unstopped g c past (Fail a) h = by (nat_le c.max_failed (suc (failures a.task past))) where
   by : (b : Bool) → AllUnstopped (Failed a ∷ (if b then [] else requeue past a.task))
@@ -88,11 +90,19 @@ counted_stop c r cause k v =
 counted_took : (g : Dag) (c : ConfValues) (r : Run) (e : CoreEvent) → Counted c r → r.verdict ≡ None → Counted c (took g c r e)
 counted_took g c r Restart k v = counted_stop c r Script k v
 counted_took g c r Open k v = k
+counted_took g c r (Ask _) k v = k
 counted_took g c r e k v = counted_after c r _ (entries_of g c r.past e) (event_unstopped g c r.past e tt) k v
 
 counted_opened : (g : Dag) (c : ConfValues) (r : Run) (found : Found) → Counted c r → r.verdict ≡ None → Counted c (opened_by g c r found)
 counted_opened g c r Begun k v = (k.0, λ e. cc)
 counted_opened g c r AllDone k v = (k.0, λ e. k.1 v)
+counted_opened g c r (Committed x n) k v = by (spent_in c x) refl where
+  by : (o : Option (TaskId × ℕ)) → spent_in c x ≡ o → Counted c (committed_unless g r x n o)
+  by (Some y) e = (k.0, λ f. cc)
+  by None e =
+      let p = opened_at x r.past in
+      let es = committed_entries g p x n in
+      counted_same c (stops (extend p es)) (stops r.past) None (unstopped_same p es (opening_unstopped c es (committed_opening g c p x n e))) (k.1 v)
 counted_opened g c r (Unfinished x) k v = by (spent_in c x) refl where
   by : (o : Option (TaskId × ℕ)) → spent_in c x ≡ o → Counted c (opened_unless g r x o)
   by (Some y) e = (k.0, λ f. cc)
@@ -108,6 +118,10 @@ counted_happens_to g c r (Event e) k v = by (enabled g c r.past e) where
 counted_happens_to g c r (Report a made) k v = by (is_up r.past && is_processing (stage a r.past)) where
   by : (b : Bool) → Counted c (if b then going_on r.past (done_entries a made) else r)
   by true = counted_after c r None (done_entries a made) (quiet_unstopped (done_entries a made) (quiet_made a made)) k v
+  by false = k
+counted_happens_to g c r (Answer v there) k none = by (enabled g c r.past (Ask v)) where
+  by : (b : Bool) → Counted c (if b then going_on r.past (asked_entries v there) else r)
+  by true = counted_after c r None (asked_entries v there) (quiet_unstopped (asked_entries v there) (quiet_asked v there)) k none
   by false = k
 counted_happens_to g c r (Stop cause) k v = counted_stop c r cause k v
 counted_happens_to g c r (Start found) k v = by (not (is_up r.past)) where

@@ -4,16 +4,16 @@ use Rattle.std.proofs.Common.{ap, ◌∙◌}
 use Rattle.std.proofs.lemmas.Bool.{eq-eqb}
 use Rattle.tez_ids.specs.declared.AttemptId.{AttemptId}
 use Rattle.tez_events.specs.declared.Entry.{Entry}
-use Rattle.tez_events.specs.declared.Entry.TheVariants.{Queued, Fetched, ReadError, InputFailed, Succeeded, Made, Failed, Killed, NodeLost, OutputLost, Rerun}
+use Rattle.tez_events.specs.declared.Entry.TheVariants.{Queued, Fetched, ReadError, InputFailed, Succeeded, Made, Failed, Killed, NodeLost, OutputLost, Rerun, Asked, Settled}
 use Rattle.tez_events.specs.declared.CoreEvent.{CoreEvent}
-use Rattle.tez_events.specs.declared.CoreEvent.TheVariants.{Open, Fetch, Preempt, Fail, LoseNode, LoseOutput}
+use Rattle.tez_events.specs.declared.CoreEvent.TheVariants.{Open, Fetch, Preempt, Fail, LoseNode, LoseOutput, Ask}
 use Rattle.tez_plan.specs.Dag.{Dag, edge}
 use Rattle.tez_conf.specs.declared.values.ConfValues.{ConfValues}
 use Rattle.tez_history.specs.History.{Past, extend, winner, holder, life, failures, is_committing}
 use Rattle.tez_history.specs.Derived.{tasks, notices, next_attempt, places_on, is_on_node, is_on_shelf}
 use Rattle.tez_history.specs.Steps.{entries_of, each_after, requeue, withdrawal, killed_by_node, kill_at, withdrawn_if, withdraw_lost, node_kills, node_withdrawals, fetch_entries, winner_behind, output_lost_entries, done_entries}
 use Rattle.tez_history.specs.Rules.{owed, rest_of, is_owed}
-use Rattle.tez_laws.specs.Laws.{OwesRight}
+use Rattle.tez_laws.specs.Laws.{OwesRight, AnswersOweRight}
 use Rattle.tez_laws.proofs.Same.{same_task-refl, same_attempt-refl}
 use Rattle.tez_laws.proofs.StepLaw.{AllNotices, notices_are}
 
@@ -93,6 +93,7 @@ event_owes g c past (LoseNode slot) h = loss_owes g c past slot (is_committing p
 event_owes g c past (LoseOutput t) h = output_owes g past (winner t past) h
 event_owes g c past (Preempt a) h = (free g past (Killed a Rattle.tez_events.specs.declared.KillCause.TheVariants.Preempt) h, (refl, refl))
 event_owes g c past Open h = h
+event_owes g c past (Ask v) h = h
 event_owes g c past e h = (free g past _ h, refl)
 
 made_owes : (g : Dag) (past : Past) (a : AttemptId) (made : List (ℕ × ℕ)) → owed g past ≡ [] → OwesRight g past (map (λ m. Made a (edge m.0) m.1) made)
@@ -101,3 +102,7 @@ made_owes g past a (x ∷ xs) h = (free g past (Made a (edge x.0) x.1) h, made_o
 
 pub done_owes : (g : Dag) (past : Past) (a : AttemptId) (made : List (ℕ × ℕ)) → owed g past ≡ [] → OwesRight g past (done_entries a made)
 done_owes g past a made h = (free g past (Succeeded a) h, made_owes g (Succeeded a ∷ past) a made refl)
+
+pub asked_owes : (g : Dag) (past : Past) → owed g past ≡ [] → AnswersOweRight g past
+asked_owes g past h v true = (free g past (Settled v) h, refl)
+asked_owes g past h v false = (free g past (Asked v) h, refl)

@@ -21,11 +21,16 @@
 --     LiveIsListed, WinnerIsListed g past     a task with a live attempt, or a winner, is one of them
 --     AreInOrder ts             tasks stand in order of vertex, then index
 --     Sound g c past            what a master goes by between two steps
+--     answered past v there     the history after the store answered of a sink
+--     AnswersKeep g c P         such an answer, of a sink that the master may ask of, keeps P
+--     AnswersOweRight g past    nor is it or anything after it owed
+--     taken_up g past s n       the history after a master found this standing and a commit with n sinks recorded
 --     AllFindAgreeing g c r hs  each new master finds the configurations as they stood last
 --     IsSound g c r             what holds of a run after each happening
-use Rattle.std.specs.Prelude.{◌≡◌, ◌↔◌, ℕ, suc, ◌<◌, ◌==◌, nat_lt, nat_le, not, ◌&&◌, ◌||◌, ⊤, IsTrue, Bool, true, false, List, [], ◌∷◌, Option, Some, None, is_none, is_some}
+use Rattle.std.specs.Prelude.{◌≡◌, ◌↔◌, ℕ, suc, ◌<◌, ◌≤◌, ◌==◌, nat_lt, nat_le, not, ◌&&◌, ◌||◌, ⊤, IsTrue, Bool, true, false, List, [], ◌∷◌, Option, Some, None, is_none, is_some}
 use Rattle.tez_ids.specs.declared.TaskId.{TaskId}
 use Rattle.tez_ids.specs.declared.AttemptId.{AttemptId}
+use Rattle.tez_ids.specs.declared.VertexId.{VertexId}
 use Rattle.tez_vman.specs.declared.seen.Config.{Config}
 use Rattle.tez_ids.specs.Same.{same_attempt}
 use Rattle.tez_lists.specs.Numbers.{In}
@@ -34,13 +39,14 @@ use Rattle.tez_conf.specs.declared.values.ConfValues.{ConfValues}
 use Rattle.tez_events.specs.declared.Entry.{Entry}
 use Rattle.tez_events.specs.declared.Entry.TheVariants.{Stands, Configured, Queued}
 use Rattle.tez_events.specs.declared.CoreEvent.{CoreEvent}
-use Rattle.tez_events.specs.declared.CoreEvent.TheVariants.{Open, Configure, Queue, Place, Fetch, Send, Preempt, Fail, LoseNode, LoseOutput, Restart, Ready, CommitStart, Publish, Finish, Purge}
+use Rattle.tez_events.specs.declared.CoreEvent.TheVariants.{Open, Configure, Queue, Place, Fetch, Send, Preempt, Fail, LoseNode, LoseOutput, Restart, Ready, CommitStart, Ask, Publish, Finish, Purge}
 use Rattle.tez_history.specs.Shape.{is_vertex, places, Edge, primary_edges}
-use Rattle.tez_history.specs.History.{Past, Stage, Unknown, InQueue, Waits, Runs, Ended, stage, live, winner, holder, config, failures, is_scheduled, is_fetched}
+use Rattle.tez_history.specs.History.{Past, Stage, Unknown, InQueue, Waits, Runs, Ended, stage, live, winner, holder, config, failures, is_scheduled, is_fetched, extend}
 use Rattle.tez_history.specs.Derived.{next_attempt, tasks, is_task, Input, inputs, source_of_input, task_count, is_vertex_done, is_configured, configures, to_schedule}
+use Rattle.tez_history.specs.Steps.{enabled, asked_entries}
 use Rattle.tez_history.specs.Rules.{configs_right, agrees, last_config, withdrawals_right, owed, is_owed, is_at_start, is_start}
 use Rattle.tez_history.specs.Follows.{IsAlive, IsMade}
-use Rattle.tez_history.specs.Runs.{Run, Unfinished, AllDone, Begun, Happening, Event, Report, Stop, Start, happens, IsBetween}
+use Rattle.tez_history.specs.Runs.{Run, Standing, opened_at, committed_entries, spent_in, Unfinished, AllDone, Committed, Begun, Happening, Event, Report, Answer, Stop, Start, happens, IsBetween}
 
 -- ---- attempts
 
@@ -160,6 +166,7 @@ SpendsNot c past (LoseOutput t) = ⊤
 SpendsNot c past Restart = ⊤
 SpendsNot c past (Ready v) = ⊤
 SpendsNot c past CommitStart = ⊤
+SpendsNot c past (Ask v) = ⊤
 SpendsNot c past (Publish v) = ⊤
 SpendsNot c past Finish = ⊤
 SpendsNot c past Purge = ⊤
@@ -196,15 +203,35 @@ pub record Sound (g : Dag) (c : ConfValues) (past : Past) : Type 0 where
   pub in_order : AreInOrder (tasks g past)
   pub inside : InputsLeadInside g past
 
+-- ---- what the store answers, and a commit that is taken up
+
+abbrev pub answered : Past → VertexId → Bool → Past
+answered past v there = extend past (asked_entries v there)
+
+abbrev pub AnswersKeep : Dag → ConfValues → (Past → Type 0) → Type 0
+AnswersKeep g c P = (past : Past) (v : VertexId) (there : Bool) → P past → enabled g c past (Ask v) ≡ true → P (answered past v there)
+
+abbrev pub AnswersOweRight : Dag → Past → Type 0
+AnswersOweRight g past = (v : VertexId) (there : Bool) → OwesRight g past (asked_entries v there)
+
+abbrev pub taken_up : Dag → Past → Standing → ℕ → Past
+taken_up g past s n = extend (opened_at s past) (committed_entries g (opened_at s past) s n)
+
+-- what a master goes by, it goes by too once it has taken up a commit
+abbrev pub IsSoundTakenUp : Dag → ConfValues → Past → Standing → ℕ → Type 0
+IsSoundTakenUp g c past s n = 1 ≤ c.max_failed → Sound g c past → IsTrue (is_at_start past) → spent_in c s ≡ None → Sound g c (taken_up g past s n)
+
 -- ---- runs
 
 -- what a new master finds of each vertex agrees with how it stood last
 abbrev pub FindsAgreeing : Past → Happening → Type 0
 FindsAgreeing past (Start (Unfinished s)) = (x : ℕ × Config) → In x s.configured → IsTrue (agrees x.1.tasks x.1.base (last_config x.0 false past))
+FindsAgreeing past (Start (Committed s n)) = (x : ℕ × Config) → In x s.configured → IsTrue (agrees x.1.tasks x.1.base (last_config x.0 false past))
 FindsAgreeing past (Start AllDone) = ⊤
 FindsAgreeing past (Start Begun) = ⊤
 FindsAgreeing past (Event e) = ⊤
 FindsAgreeing past (Report a made) = ⊤
+FindsAgreeing past (Answer v there) = ⊤
 FindsAgreeing past (Stop cause) = ⊤
 
 abbrev pub AllFindAgreeing : Dag → ConfValues → Run → List Happening → Type 0

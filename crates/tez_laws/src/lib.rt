@@ -4,8 +4,9 @@
 //! It has no code, but a function for each law, whose contract is the law.
 #![tactic(auto)]
 
-ghost use Rattle.std.specs.Prelude.{◌≡◌, ◌≤◌, ◌∷◌, [], ℕ, List, reverse, IsTrue, None, true};
+ghost use Rattle.std.specs.Prelude.{◌≡◌, ◌≤◌, ◌∷◌, [], ℕ, Bool, List, reverse, IsTrue, None, true};
 ghost use Rattle.tez_ids.specs.declared.AttemptId.{AttemptId};
+ghost use Rattle.tez_ids.specs.declared.VertexId.{VertexId};
 ghost use Rattle.tez_plan.specs.Dag.{Dag};
 ghost use Rattle.tez_conf.specs.declared.values.ConfValues.{ConfValues};
 ghost use Rattle.tez_events.specs.declared.StopCause.{StopCause};
@@ -19,7 +20,7 @@ ghost use Rattle.tez_history.specs.Steps.{enabled, entries_of, done_entries};
 ghost use Rattle.tez_history.specs.Rules.{places_right, queues_right, configs_right, fetches_right, stops_right, commit_right, is_answered, broken, owed, is_at_start};
 ghost use Rattle.tez_history.specs.Follows.{IsMade};
 ghost use Rattle.tez_history.specs.Runs.{Standing, Happening, opened_at, standing_entries, spent_in, run, not_begun};
-ghost use Rattle.tez_laws.specs.Laws.{IsSound, InputsLeadInside, SourcesDone, IsReady, OneLive, LiveIsOfTask, WinnerIsOfTask, NeverBoth, UnscheduledHasNone, ScheduledIsTask, ConfiguredIsVertex, NextIsNew, NextNeverQueued, PlacesAgree, QueuedFetchedNone, Obeys, configured_right, TasksAreListed, LiveIsListed, WinnerIsListed, AreInOrder, Sound, AllFindAgreeing, OwesRight, GoesOn, SpendsNot};
+ghost use Rattle.tez_laws.specs.Laws.{IsSound, InputsLeadInside, SourcesDone, IsReady, OneLive, LiveIsOfTask, WinnerIsOfTask, NeverBoth, UnscheduledHasNone, ScheduledIsTask, ConfiguredIsVertex, NextIsNew, NextNeverQueued, PlacesAgree, QueuedFetchedNone, Obeys, configured_right, TasksAreListed, LiveIsListed, WinnerIsListed, AreInOrder, Sound, AllFindAgreeing, OwesRight, GoesOn, SpendsNot, answered, AnswersKeep, AnswersOweRight, IsSoundTakenUp};
 
 /// Whatever happens, one thing after another: each entry was one that might follow, after a withdrawal
 /// came its notices and the new attempt, no spent task was queued, and where a master stopped
@@ -30,11 +31,12 @@ pub fn every_run_is_sound()
     ensures { (g : Dag) (c : ConfValues) (hs : List Happening) → 1 ≤ c.max_failed → IsSound g c (run g c not_begun hs) }
 {}
 
-/// Each enabled event adds entries that may follow, and so does the report of an attempt that is
-/// processing: what is made stays made.
+/// Each enabled event adds entries that may follow, and so do the report of an attempt that is
+/// processing and the answer of the store that is asked of a sink: what is made stays made.
 pub fn steps_follow()
     ensures event { (g : Dag) (c : ConfValues) (past : Past) (e : CoreEvent) → IsMade g c past → enabled g c past e ≡ true → IsMade g c (extend past (entries_of g c past e)) }
     ensures report { (g : Dag) (c : ConfValues) (past : Past) (a : AttemptId) (made : List (ℕ × ℕ)) → IsMade g c past → IsTrue (is_processing (stage a past)) → IsMade g c (extend past (done_entries a made)) }
+    ensures asked { (g : Dag) (c : ConfValues) → AnswersKeep g c (IsMade g c) }
 {}
 
 /// A task has at most one live attempt, and that one is at the task and has not ended.
@@ -92,6 +94,7 @@ pub fn vertex_is_ready()
 pub fn withdrawals_are_whole()
     ensures event { (g : Dag) (c : ConfValues) (past : Past) (e : CoreEvent) → owed g past ≡ [] → OwesRight g past (entries_of g c past e) }
     ensures report { (g : Dag) (past : Past) (a : AttemptId) (made : List (ℕ × ℕ)) → owed g past ≡ [] → OwesRight g past (done_entries a made) }
+    ensures asked { (g : Dag) (past : Past) → owed g past ≡ [] → AnswersOweRight g past }
 {}
 
 /// Between two steps each task that was kept or queued has a live attempt or a winner, as long as
@@ -99,6 +102,7 @@ pub fn withdrawals_are_whole()
 pub fn tasks_go_on()
     ensures event { (g : Dag) (c : ConfValues) (past : Past) (e : CoreEvent) → SpendsNot c past e → GoesOn past → GoesOn (extend past (entries_of g c past e)) }
     ensures report { (past : Past) (a : AttemptId) (made : List (ℕ × ℕ)) → GoesOn past → GoesOn (extend past (done_entries a made)) }
+    ensures asked { (past : Past) (v : VertexId) (there : Bool) → GoesOn past → GoesOn (answered past v there) }
 {}
 
 /// Opens and stops obey their rule in every run: where a master stopped nothing comes but a start or
@@ -124,16 +128,18 @@ pub fn tasks_are_listed()
 {}
 
 /// What a master goes by holds between two steps of every run that has not ended, and each step that
-/// spends no task keeps it, and so do stops and new masters: the history is made, nothing is owed, each task that was kept or queued
-/// has a live attempt or a winner and is listed, none is spent, and inputs lead to tasks that are
-/// there.
+/// spends no task keeps it, and so do stops and new masters, also one that takes up a commit: the
+/// history is made, nothing is owed, each task that was kept or queued has a live attempt or a
+/// winner and is listed, none is spent, and inputs lead to tasks that are there.
 pub fn steps_are_sound()
     ensures run { (g : Dag) (c : ConfValues) (hs : List Happening) → 1 ≤ c.max_failed → (run g c not_begun hs).verdict ≡ None → Sound g c (run g c not_begun hs).past }
     ensures event { (g : Dag) (c : ConfValues) (past : Past) (e : CoreEvent) → Sound g c past → enabled g c past e ≡ true → SpendsNot c past e → Sound g c (extend past (entries_of g c past e)) }
     ensures report { (g : Dag) (c : ConfValues) (past : Past) (a : AttemptId) (made : List (ℕ × ℕ)) → Sound g c past → IsTrue (is_processing (stage a past)) → Sound g c (extend past (done_entries a made)) }
+    ensures asked { (g : Dag) (c : ConfValues) → AnswersKeep g c (Sound g c) }
     ensures stop { (g : Dag) (c : ConfValues) (past : Past) (cause : StopCause) → Sound g c past → Sound g c (Stopped cause ∷ past) }
     ensures over { (g : Dag) (c : ConfValues) (past : Past) → 1 ≤ c.max_failed → Sound g c past → IsTrue (is_at_start past) → Sound g c (Over ∷ past) }
     ensures opens { (g : Dag) (c : ConfValues) (past : Past) (s : Standing) → 1 ≤ c.max_failed → Sound g c past → IsTrue (is_at_start past) → spent_in c s ≡ None → Sound g c (extend (opened_at s past) (standing_entries g (opened_at s past) s)) }
+    ensures takes_up { (g : Dag) (c : ConfValues) (past : Past) (s : Standing) (n : ℕ) → IsSoundTakenUp g c past s n }
 {}
 
 /// The trace of a run breaks no rule, if each new master finds the configurations as they stood last

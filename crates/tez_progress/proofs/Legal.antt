@@ -18,7 +18,7 @@ use Rattle.tez_plan.specs.Ranges.{IsInRanges}
 use Rattle.tez_shrink.specs.Formulas.{tasks_of as tasks_for}
 use Rattle.tez_vman.specs.declared.seen.Config.{Config}
 use Rattle.tez_events.specs.declared.JournalRecord.{JournalRecord}
-use Rattle.tez_events.specs.declared.JournalRecord.TheVariants.{Submitted, Opened, Configured, TaskSucceeded, AttemptFailed, CommitStarted, Finished}
+use Rattle.tez_events.specs.declared.JournalRecord.TheVariants.{Submitted, Opened, Configured, TaskSucceeded, AttemptFailed, CommitStarted, Finished, Version, SinkPublished}
 use Rattle.tez_standing.specs.declared.state.Setting.{Setting}
 use Rattle.tez_standing.specs.Standing.{latest, setting, sets, feeder, fits_vertex, fits_feeder, takes_parts, may_follow, known, is_open, IsLegal, IsLegalTo, setting_row, standing}
 use Rattle.tez_history.specs.Shape.{has_source, ByVertex, feed, feed_by, first_source}
@@ -162,6 +162,8 @@ next_fits g rs (TaskSucceeded a) ranges h fit = same_settings g rs (TaskSucceede
 next_fits g rs (AttemptFailed a) ranges h fit = same_settings g rs (AttemptFailed a) (λ v. refl) fit
 next_fits g rs (CommitStarted sums) ranges h fit = same_settings g rs (CommitStarted sums) (λ v. refl) fit
 next_fits g rs Finished ranges h fit = same_settings g rs Finished (λ v. refl) fit
+next_fits g rs Version ranges h fit = same_settings g rs Version (λ v. refl) fit
+next_fits g rs (SinkPublished w) ranges h fit = same_settings g rs (SinkPublished w) (λ v. refl) fit
 
 -- ---- all records
 

@@ -1,7 +1,8 @@
 -- What a new master finds is what stands after its start.
 --     stands_config      once the configurations stand
 --     opening_fits       what stands fits the plan, if what is found does
-use Rattle.std.specs.Prelude.{◌≡◌, ℕ, ◌<◌, ◌==◌, ◌&&◌, nat_lt, Bool, true, false, if◌then◌else◌, List, [], ◌∷◌, ◌++◌, map, length, Option, Some, None, is_none, refl}
+--     committed_fits     also where a commit is taken up
+use Rattle.std.specs.Prelude.{◌≡◌, ℕ, ◌<◌, ◌==◌, ◌&&◌, nat_lt, nat_le, Bool, true, false, if◌then◌else◌, List, [], ◌∷◌, ◌++◌, map, length, Option, Some, None, is_none, refl}
 use Rattle.std.proofs.Common.{inl, ap, sym, ◌∙◌, subst}
 use Rattle.std.proofs.lemmas.Bool.{eq-eqb, eqb-true}
 use Rattle.tez_ids.specs.declared.TaskId.{TaskId}
@@ -11,12 +12,12 @@ use Rattle.tez_lists.proofs.Cases.{cases}
 use Rattle.tez_plan.specs.Dag.{Dag, is_broadcast, vertex}
 use Rattle.tez_plan.specs.Faults.{IsValid}
 use Rattle.tez_vman.specs.declared.seen.Config.{Config}
-use Rattle.tez_events.specs.declared.Entry.TheVariants.{Stands, Carried, Kept}
+use Rattle.tez_events.specs.declared.Entry.TheVariants.{Stands, Carried, Kept, Committing}
 use Rattle.tez_history.specs.Shape.{is_vertex, edges_to, ByVertex, feed}
-use Rattle.tez_history.specs.History.{Past, config, extend}
-use Rattle.tez_history.specs.Derived.{is_task}
+use Rattle.tez_history.specs.History.{Past, config, extend, recorded}
+use Rattle.tez_history.specs.Derived.{is_task, all_done}
 use Rattle.tez_history.specs.Steps.{each_after}
-use Rattle.tez_history.specs.Runs.{Standing, stands_if, kept_if, carried_entries, opened_at, standing_entries}
+use Rattle.tez_history.specs.Runs.{Standing, stands_if, kept_if, carried_entries, opened_at, standing_entries, committing_if, committed_entries}
 use Rattle.tez_laws.proofs.Going.{extend-append}
 use Rattle.tez_progress.specs.Laws.{Fits, IsFed, IsFitted, found_at}
 use Rattle.tez_progress.proofs.Members.{filter_in}
@@ -123,3 +124,15 @@ opening_fits g past s valid finds = record {
       let there = feeder_inside g v u valid k.0 f in
       (d.0, opened_config g past s u ∙ (rw there d.1), d.2);
 }
+
+committing_fits : (g : Dag) (past : Past) (n : ℕ) → IsFitted g past → IsFitted g (extend past (committing_if g past n))
+committing_fits g past n fits = by (all_done g past && nat_le (recorded past) n) where
+  by : (b : Bool) → IsFitted g (extend past (if b then Committing n ∷ [] else []))
+  by true = fits
+  by false = fits
+
+pub committed_fits : (g : Dag) (past : Past) (s : Standing) (n : ℕ) → IsValid g → Fits g (found_at s.configured) → IsFitted g (extend (opened_at s past) (committed_entries g (opened_at s past) s n))
+committed_fits g past s n valid finds =
+    let p = opened_at s past in
+    let es = standing_entries g p s in
+    subst (IsFitted g) (sym (extend-append p es (committing_if g (extend p es) n))) (committing_fits g (extend p es) n (opening_fits g past s valid finds))

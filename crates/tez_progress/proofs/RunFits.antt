@@ -4,6 +4,7 @@ use Rattle.std.specs.List.{list_all, AllByRecursion}
 use Rattle.std.proofs.Common.{sym, subst}
 use Rattle.tez_ids.specs.declared.TaskId.{TaskId}
 use Rattle.tez_ids.specs.declared.AttemptId.{AttemptId}
+use Rattle.tez_ids.specs.declared.VertexId.{VertexId}
 use Rattle.tez_plan.specs.Dag.{Dag, edge}
 use Rattle.tez_plan.specs.Faults.{IsValid}
 use Rattle.tez_plan.specs.Ranges.{IsInRanges}
@@ -11,19 +12,19 @@ use Rattle.tez_conf.specs.declared.values.ConfValues.{ConfValues}
 use Rattle.tez_events.specs.declared.Entry.{Entry}
 use Rattle.tez_events.specs.declared.Entry.TheVariants.{Over, Fetched, ReadError, InputFailed, Made, Failed, NodeLost}
 use Rattle.tez_events.specs.declared.CoreEvent.{CoreEvent}
-use Rattle.tez_events.specs.declared.CoreEvent.TheVariants.{Open, Configure, Queue, Place, Fetch, Send, Preempt, Fail, LoseNode, LoseOutput, Restart, Ready, CommitStart, Publish, Finish, Purge}
+use Rattle.tez_events.specs.declared.CoreEvent.TheVariants.{Open, Configure, Queue, Place, Fetch, Send, Preempt, Fail, LoseNode, LoseOutput, Restart, Ready, CommitStart, Ask, Publish, Finish, Purge}
 use Rattle.tez_history.specs.History.{Past, config, extend, stage, holder, winner, life, failures, is_up, is_committing}
 use Rattle.tez_history.specs.Derived.{tasks, is_processing, notices, places_on, is_on_node, is_on_shelf}
-use Rattle.tez_history.specs.Steps.{enabled, entries_of, each_after, requeue, withdrawal, killed_by_node, kill_at, withdrawn_if, withdraw_lost, node_kills, node_withdrawals, fetch_entries, winner_behind, output_lost_entries, done_entries}
+use Rattle.tez_history.specs.Steps.{enabled, entries_of, each_after, requeue, withdrawal, killed_by_node, kill_at, withdrawn_if, withdraw_lost, node_kills, node_withdrawals, fetch_entries, winner_behind, output_lost_entries, done_entries, asked_entries}
 use Rattle.tez_history.specs.Follows.{IsMade}
-use Rattle.tez_history.specs.Runs.{Run, Found, Unfinished, AllDone, Begun, Happening, Event, Report, Stop, Start, spent_in, opened_unless, opened_by, going_on, took, happens_to, happens, run, not_begun}
+use Rattle.tez_history.specs.Runs.{Run, Found, Unfinished, AllDone, Committed, Begun, Happening, Event, Report, Answer, Stop, Start, spent_in, opened_unless, committed_unless, opened_by, going_on, took, happens_to, happens, run, not_begun}
 use Rattle.tez_laws.specs.Laws.{IsSound}
-use Rattle.tez_laws.proofs.StepLaw.{event_may, done_may, AllNotices, notices_are, both}
+use Rattle.tez_laws.proofs.StepLaw.{event_may, done_may, asked_may, AllNotices, notices_are, both}
 use Rattle.tez_laws.proofs.RunLaw.{run_sound}
 use Rattle.tez_progress.specs.Laws.{IsFitted, is_stands, FindsFitting}
 use Rattle.tez_progress.proofs.Configured.{fits_extend}
 use Rattle.tez_progress.proofs.Fitting.{fits_none}
-use Rattle.tez_progress.proofs.Opening.{opening_fits}
+use Rattle.tez_progress.proofs.Opening.{opening_fits, committed_fits}
 use Rattle.tez_progress.proofs.Members.{true_and}
 
 -- ---- no event adds a configuration that was found
@@ -108,6 +109,7 @@ found_event g c past (LoseNode slot) = found_loss g c past slot (is_committing p
 found_event g c past (LoseOutput t) = found_output (winner t past)
 found_event g c past (Ready v) = refl
 found_event g c past CommitStart = refl
+found_event g c past (Ask v) = refl
 found_event g c past (Publish v) = refl
 found_event g c past Finish = refl
 found_event g c past Restart = refl
@@ -119,6 +121,11 @@ unfolding none_found
 found_made a [] = refl
 found_made a (x ∷ xs) = found_made a xs
 
+found_asked : (v : VertexId) (there : Bool) → none_found (asked_entries v there) ≡ true
+unfolding none_found
+found_asked v true = refl
+found_asked v false = refl
+
 -- ---- runs
 
 module _ (g : Dag) (c : ConfValues) (ranges : IsInRanges g) (valid : IsValid g) where
@@ -129,12 +136,17 @@ module _ (g : Dag) (c : ConfValues) (ranges : IsInRanges g) (valid : IsValid g) 
   took_fits : (r : Run) (e : CoreEvent) → IsMade g c r.past → enabled g c r.past e ≡ true → IsFitted g r.past → IsFitted g (took g c r e).past
   took_fits r Restart made h fits = fits
   took_fits r Open made h fits = fits
+  took_fits r (Ask v) made h fits = fits
   took_fits r e made h fits = event_fits r.past e made h fits
 
   opened_fits : (r : Run) (found : Found) → FindsFitting g (Start found) → IsFitted g r.past → IsFitted g (opened_by g c r found).past
   opened_fits r (Unfinished s) finds fits = by (spent_in c s) where
     by : (o : Option (TaskId × ℕ)) → IsFitted g (opened_unless g r s o).past
     by None = opening_fits g r.past s valid finds
+    by (Some x) = fits
+  opened_fits r (Committed s n) finds fits = by (spent_in c s) where
+    by : (o : Option (TaskId × ℕ)) → IsFitted g (committed_unless g r s n o).past
+    by None = committed_fits g r.past s n valid finds
     by (Some x) = fits
   opened_fits r AllDone finds fits = fits_none g (λ v. config v (Over ∷ r.past)) (λ v. refl)
   opened_fits r Begun finds fits = fits
@@ -148,6 +160,10 @@ module _ (g : Dag) (c : ConfValues) (ranges : IsInRanges g) (valid : IsValid g) 
   happens_to_fits r (Report a made_bytes) made finds fits = by (is_up r.past && is_processing (stage a r.past)) refl where
     by : (b : Bool) → (is_up r.past && is_processing (stage a r.past)) ≡ b → IsFitted g (if b then going_on r.past (done_entries a made_bytes) else r).past
     by true h = fits_extend g c r.past (done_entries a made_bytes) ranges valid (done_may g c r.past a made_bytes (both {x = is_up r.past} h).1) (found_made a made_bytes) fits
+    by false h = fits
+  happens_to_fits r (Answer v there) made finds fits = by (enabled g c r.past (Ask v)) refl where
+    by : (b : Bool) → enabled g c r.past (Ask v) ≡ b → IsFitted g (if b then going_on r.past (asked_entries v there) else r).past
+    by true h = fits_extend g c r.past (asked_entries v there) ranges valid (asked_may g c r.past v there h) (found_asked v there) fits
     by false h = fits
   happens_to_fits r (Stop cause) made finds fits = fits
   happens_to_fits r (Start found) made finds fits = by (not (is_up r.past)) where

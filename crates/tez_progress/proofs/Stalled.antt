@@ -14,7 +14,7 @@ use Rattle.tez_events.specs.declared.CoreEvent.TheVariants.{Configure, Queue, Pl
 use Rattle.tez_history.specs.Shape.{vertices, places, numbers_below}
 use Rattle.tez_history.specs.History.{Past, config, stage, is_up, is_finished, is_fetched}
 use Rattle.tez_history.specs.Derived.{Input, inputs, tasks, waiting_attempts, queued_attempts, is_queued, is_waiting, is_free, any_free, is_shallower_queued, all_fetched, configures}
-use Rattle.tez_history.specs.Steps.{enabled, candidates, choice, winner_behind, may_queue, is_running, by_depth, of_depth, some_configure, some_queue, fetches_of, some_fetch, some_send, places_of, some_place, some_preempt, some_ready, some_publish}
+use Rattle.tez_history.specs.Steps.{enabled, candidates, choice, winner_behind, may_queue, is_running, by_depth, of_depth, some_configure, some_queue, fetches_of, some_fetch, some_send, places_of, some_place, some_preempt, some_ready, some_ask, some_publish}
 use Rattle.tez_progress.specs.Laws.{IsIdle}
 use Rattle.tez_progress.proofs.Members.{clash, true_and, find_none, in_reverse}
 use Rattle.tez_progress.proofs.Ready.{in_vertices, lt_true}
@@ -30,26 +30,26 @@ pub record IsStalled (g : Dag) (c : ConfValues) (past : Past) : Type 0 where
 
 module _ (g : Dag) (c : ConfValues) (past : Past) (e : CoreEvent) where
   after_configure : In e (some_queue g past ++ (some_fetch g past ++ (some_send g past ++ (some_place g c past ++ (some_preempt g past
-      ++ (some_ready g ++ CommitStart ∷ (some_publish g ++ Finish ∷ Purge ∷ []))))))) → In e (candidates g c past)
+      ++ (some_ready g ++ CommitStart ∷ (some_ask g ++ (some_publish g ++ Finish ∷ Purge ∷ [])))))))) → In e (candidates g c past)
   after_configure m = in_append_right e (some_configure g) _ m
 
   after_queue : In e (some_fetch g past ++ (some_send g past ++ (some_place g c past ++ (some_preempt g past
-      ++ (some_ready g ++ CommitStart ∷ (some_publish g ++ Finish ∷ Purge ∷ [])))))) → In e (candidates g c past)
+      ++ (some_ready g ++ CommitStart ∷ (some_ask g ++ (some_publish g ++ Finish ∷ Purge ∷ []))))))) → In e (candidates g c past)
   after_queue m = after_configure (in_append_right e (some_queue g past) _ m)
 
   after_fetch : In e (some_send g past ++ (some_place g c past ++ (some_preempt g past
-      ++ (some_ready g ++ CommitStart ∷ (some_publish g ++ Finish ∷ Purge ∷ []))))) → In e (candidates g c past)
+      ++ (some_ready g ++ CommitStart ∷ (some_ask g ++ (some_publish g ++ Finish ∷ Purge ∷ [])))))) → In e (candidates g c past)
   after_fetch m = after_queue (in_append_right e (some_fetch g past) _ m)
 
   after_send : In e (some_place g c past ++ (some_preempt g past
-      ++ (some_ready g ++ CommitStart ∷ (some_publish g ++ Finish ∷ Purge ∷ [])))) → In e (candidates g c past)
+      ++ (some_ready g ++ CommitStart ∷ (some_ask g ++ (some_publish g ++ Finish ∷ Purge ∷ []))))) → In e (candidates g c past)
   after_send m = after_fetch (in_append_right e (some_send g past) _ m)
 
   after_place : In e (some_preempt g past
-      ++ (some_ready g ++ CommitStart ∷ (some_publish g ++ Finish ∷ Purge ∷ []))) → In e (candidates g c past)
+      ++ (some_ready g ++ CommitStart ∷ (some_ask g ++ (some_publish g ++ Finish ∷ Purge ∷ [])))) → In e (candidates g c past)
   after_place m = after_send (in_append_right e (some_place g c past) _ m)
 
-  pub at_end : In e (some_ready g ++ CommitStart ∷ (some_publish g ++ Finish ∷ Purge ∷ [])) → In e (candidates g c past)
+  pub at_end : In e (some_ready g ++ CommitStart ∷ (some_ask g ++ (some_publish g ++ Finish ∷ Purge ∷ []))) → In e (candidates g c past)
   at_end m = after_place (in_append_right e (some_preempt g past) _ m)
 
 -- ---- what is a candidate is not enabled

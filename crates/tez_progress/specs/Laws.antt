@@ -26,7 +26,7 @@ use Rattle.tez_history.specs.Shape.{Edge, edges_to, primary_edges, Feed, ByFile,
 use Rattle.tez_history.specs.History.{Past, config, stage, is_up}
 use Rattle.tez_history.specs.Derived.{is_processing, is_vertex_done}
 use Rattle.tez_history.specs.Steps.{choice}
-use Rattle.tez_history.specs.Runs.{Run, Unfinished, AllDone, Begun, Happening, Event, Report, Stop, Start}
+use Rattle.tez_history.specs.Runs.{Run, Unfinished, AllDone, Committed, Begun, Happening, Event, Report, Answer, Stop, Start}
 
 -- ---- how a vertex of a valid plan is fed
 
@@ -68,10 +68,12 @@ found_configs xs = map (λ x. (x.0.0, shape x.1 x.2)) xs
 
 abbrev pub FindsFitting : Dag → Happening → Type 0
 FindsFitting g (Start (Unfinished s)) = Fits g (found_at s.configured)
+FindsFitting g (Start (Committed s n)) = Fits g (found_at s.configured)
 FindsFitting g (Start AllDone) = ⊤
 FindsFitting g (Start Begun) = ⊤
 FindsFitting g (Event e) = ⊤
 FindsFitting g (Report a made) = ⊤
+FindsFitting g (Answer v there) = ⊤
 FindsFitting g (Stop cause) = ⊤
 
 -- ---- the master
