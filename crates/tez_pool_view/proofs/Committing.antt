@@ -16,16 +16,17 @@ use Rattle.tez_conf.specs.declared.values.ConfValues.{ConfValues}
 use Rattle.tez_vman.specs.declared.seen.Config.{Config}
 use Rattle.tez_events.specs.declared.StopCause.{StopCause}
 use Rattle.tez_events.specs.declared.Entry.{Entry}
-use Rattle.tez_events.specs.declared.Entry.TheVariants.{Opened, Over, Stands, Carried, Kept, Configured, Fetched, ReadError, InputFailed, Succeeded, Made, Failed, NodeLost, Rerun, Stopped, Ready as Readied, CommitStarted, Finished, Purged, OutputLost}
+use Rattle.tez_events.specs.declared.Entry.TheVariants.{Opened, Over, Stands, Carried, Kept, Configured, Fetched, ReadError, InputFailed, Succeeded, Made, Failed, NodeLost, Rerun, Stopped, Committing, Ready as Readied, CommitStarted, Finished, Purged, OutputLost}
 use Rattle.tez_events.specs.declared.CoreEvent.{CoreEvent}
-use Rattle.tez_events.specs.declared.CoreEvent.TheVariants.{Open, Configure, Queue, Place, Fetch, Send, Preempt, Fail, LoseNode, LoseOutput, Restart, Ready, CommitStart, Publish, Finish, Purge}
+use Rattle.tez_events.specs.declared.CoreEvent.TheVariants.{Open, Configure, Queue, Place, Fetch, Send, Preempt, Fail, LoseNode, LoseOutput, Restart, Ready, CommitStart, Ask, Publish, Finish, Purge}
 use Rattle.tez_history.specs.Shape.{numbers_below, sinks, is_vertex}
-use Rattle.tez_history.specs.History.{Past, extend, stage, live, winner, holder, life, failures, config, is_up, is_committing, is_finished, is_readied}
+use Rattle.tez_history.specs.History.{Past, extend, stage, live, winner, holder, life, failures, config, is_up, is_committing, is_finished, is_readied, recorded}
 use Rattle.tez_history.specs.Derived.{tasks, notices, is_task, is_processing, is_configured, is_vertex_done, all_done, task_count, winners_of, places_on, is_on_node, is_on_shelf}
-use Rattle.tez_history.specs.Steps.{enabled, is_running, entries_of, each_after, requeue, withdrawal, killed_by_node, kill_at, withdrawn_if, withdraw_lost, node_kills, node_withdrawals, node_loss_entries, fetch_entries, winner_behind, output_lost_entries, done_entries}
+use Rattle.tez_history.specs.Steps.{enabled, is_running, entries_of, each_after, requeue, withdrawal, killed_by_node, kill_at, withdrawn_if, withdraw_lost, node_kills, node_withdrawals, node_loss_entries, fetch_entries, winner_behind, output_lost_entries, done_entries, asked_entries}
 use Rattle.tez_history.specs.Rules.{is_at_start}
 use Rattle.tez_history.specs.Follows.{IsMade, IsAlive}
-use Rattle.tez_history.specs.Runs.{Standing, Run, Found, Unfinished, AllDone, Begun, Happening, Event, Report, Stop, Start, Verdict, stands_if, kept_if, carried_entries, standing_entries, opened_at, opened_unless, opened_by, going_on, spent_in, stopped, took, happens_to, happens, run, not_begun}
+use Rattle.tez_history.specs.Runs.{Standing, Run, Found, Unfinished, AllDone, Committed, Begun, Happening, Event, Report, Answer, Stop, Start, Verdict, stands_if, kept_if, carried_entries, standing_entries, committing_if, opened_at, opened_unless, committed_unless, opened_by, going_on, spent_in, stopped, took, happens_to, happens, run, not_begun}
+use Rattle.tez_laws.specs.Laws.{answered, taken_up}
 use Rattle.tez_laws.proofs.OneLive.{one_live, placed_alive, waiting_alive, running_alive}
 use Rattle.tez_laws.proofs.Tasks.{no_both}
 use Rattle.tez_laws.proofs.Ranges.{live_scheduled, scheduled_is_task, configured_is_vertex}
@@ -95,6 +96,7 @@ abbrev Calm : Entry → Type 0
 Calm (Opened _) = ⊥
 Calm Over = ⊥
 Calm (Stopped _) = ⊥
+Calm (Committing _) = ⊥
 Calm (Readied _) = ⊥
 Calm CommitStarted = ⊥
 Calm Finished = ⊥
@@ -115,6 +117,7 @@ calm_one : (past : Past) (e : Entry) → Calm e → IsCalm past (e ∷ past)
 calm_one past (Opened _) h = absurd h
 calm_one past Over h = absurd h
 calm_one past (Stopped _) h = absurd h
+calm_one past (Committing _) h = absurd h
 calm_one past (Readied _) h = absurd h
 calm_one past CommitStarted h = absurd h
 calm_one past Finished h = absurd h
@@ -157,6 +160,7 @@ abbrev Keeps : Entry → Type 0
 Keeps (Opened _) = ⊥
 Keeps Over = ⊥
 Keeps (Stopped _) = ⊥
+Keeps (Committing _) = ⊥
 Keeps (Readied _) = ⊥
 Keeps CommitStarted = ⊥
 Keeps Finished = ⊥
@@ -176,6 +180,7 @@ keep_one : (g : Dag) (past : Past) (e : Entry) → Keeps e → IsWholeAtCommit g
 keep_one g past (Opened _) h w = absurd h
 keep_one g past Over h w = absurd h
 keep_one g past (Stopped _) h w = absurd h
+keep_one g past (Committing _) h w = absurd h
 keep_one g past (Readied _) h w = absurd h
 keep_one g past CommitStarted h w = absurd h
 keep_one g past Finished h w = absurd h
@@ -304,12 +309,17 @@ whole_event g c past Restart valid m w h = record { committing = λ u k. cc; rea
 whole_event g c past (Ready v) valid m w h = let k = both (both h).1 in record { committing = w.committing; readied = λ u r d. k.0 }
 whole_event g c past CommitStart valid m w h =
     let k = both (both h).1 in record { committing = λ u d. started g past w (both h).0 k.1 (some_or_none g valid); readied = w.readied }
+whole_event g c past (Ask v) valid m w h = w
 whole_event g c past (Publish v) valid m w h = keep_one g past _ tt w
 whole_event g c past Finish valid m w h = record { committing = w.committing; readied = λ v r k. absurd (finished (is_up past) r) }
 whole_event g c past Purge valid m w h = record { committing = λ u k. cc; readied = λ v r k. absurd (down (not (is_finished past)) r) }
 
 pub whole_report : (g : Dag) (c : ConfValues) (past : Past) (a : AttemptId) (made : List (ℕ × ℕ)) → IsMade g c past → IsWholeAtCommit g past → IsTrue (is_processing (stage a past)) → IsWholeAtCommit g (extend past (done_entries a made))
 whole_report g c past a made m w h = never g past (done_entries a made) (tt, calm_made a made) w (none_alive g c past a m (running_alive (stage a past) h))
+
+pub whole_answer : (g : Dag) (past : Past) (v : VertexId) (there : Bool) → IsWholeAtCommit g past → IsWholeAtCommit g (answered past v there)
+whole_answer g past v true w = record { committing = w.committing; readied = w.readied }
+whole_answer g past v false w = record { committing = w.committing; readied = w.readied }
 
 -- ---- masters
 
@@ -370,21 +380,45 @@ none_at_start [] h = refl
 none_at_start (Stopped _ ∷ past) h = refl
 none_at_start (_ ∷ past) h = cc
 
+whole_standing : (g : Dag) (past : Past) (s : Standing) → IsCalm (opened_at s past) (extend (opened_at s past) (standing_entries g (opened_at s past) s))
+whole_standing g past s = calm_all (opened_at s past) (standing_entries g (opened_at s past) s) (calm_finds (standing_entries g (opened_at s past) s) (finds_all g (opened_at s past) s))
+
+whole_opened : (g : Dag) (past : Past) (s : Standing) → IsWholeAtCommit g (extend (opened_at s past) (standing_entries g (opened_at s past) s))
+whole_opened g past s =
+    let k = whole_standing g past s in
+    record { committing = λ u d. (let never_so : false ≡ true = sym k.committing ∙ d in cc); readied = λ v x d. (let never_so : false ≡ true = k.readied v d in cc) }
+
+-- a commit is taken up only where every task has a winner
+whole_committing : (g : Dag) (past : Past) (n : ℕ) → IsWholeAtCommit g past → IsWholeAtCommit g (extend past (committing_if g past n))
+whole_committing g past n w = by (all_done g past && nat_le (recorded past) n) refl where
+  by : (b : Bool) → (all_done g past && nat_le (recorded past) n) ≡ b → IsWholeAtCommit g (extend past (if b then Committing n ∷ [] else []))
+  by true e = let done = (both {x = all_done g past} e).0 in record { committing = λ u d. done; readied = λ v x d. done }
+  by false e = w
+
+whole_taken_up : (g : Dag) (past : Past) (s : Standing) (n : ℕ) → IsWholeAtCommit g (taken_up g past s n)
+whole_taken_up g past s n =
+    let start : Past = opened_at s past in
+    let stands : List Entry = standing_entries g start s in
+    subst (IsWholeAtCommit g) (sym (extend-append start stands (committing_if g (extend start stands) n))) (whole_committing g (extend start stands) n (whole_opened g past s))
+
 pub whole_start : (g : Dag) (c : ConfValues) (r : Run) (found : Found) → IsTrue (is_at_start r.past) → IsWholeAtCommit g r.past → IsWholeAtCommit g (opened_by g c r found).past
 whole_start g c r Begun at w = w
 whole_start g c r AllDone at w = record { committing = λ u k. absurd (false_true (is_committing r.past) (none_at_start r.past at) k); readied = λ v x k. absurd (finished true x) }
 whole_start g c r (Unfinished s) at w = by (spent_in c s) where
   by : (o : Option (TaskId × ℕ)) → IsWholeAtCommit g (opened_unless g r s o).past
   by (Some x) = w
-  by None =
-      let k = calm_all (opened_at s r.past) (standing_entries g (opened_at s r.past) s) (calm_finds (standing_entries g (opened_at s r.past) s) (finds_all g (opened_at s r.past) s)) in
-      record { committing = λ u d. (let never_so : false ≡ true = sym k.committing ∙ d in cc); readied = λ v x d. (let never_so : false ≡ true = k.readied v d in cc) }
+  by None = whole_opened g r.past s
+whole_start g c r (Committed s n) at w = by (spent_in c s) where
+  by : (o : Option (TaskId × ℕ)) → IsWholeAtCommit g (committed_unless g r s n o).past
+  by (Some x) = w
+  by None = whole_taken_up g r.past s n
 
 -- ---- runs
 
 whole_took : (g : Dag) (c : ConfValues) (r : Run) (e : CoreEvent) → IsValid g → IsMade g c r.past → IsWholeAtCommit g r.past → enabled g c r.past e ≡ true → IsWholeAtCommit g (took g c r e).past
 whole_took g c r Restart valid m w h = whole_stop g c r Script
 whole_took g c r Open valid m w h = w
+whole_took g c r (Ask v) valid m w h = w
 whole_took g c r e valid m w h = whole_event g c r.past e valid m w h
 
 whole_happens : (g : Dag) (c : ConfValues) (r : Run) (x : Happening) → IsValid g → IsMade g c r.past → (r.verdict ≡ None → is_up r.past ≡ false → IsTrue (is_at_start r.past)) → IsWholeAtCommit g r.past → IsWholeAtCommit g (happens g c r x).past
@@ -405,6 +439,10 @@ whole_happens g c r x valid m start w = ended (is_some r.verdict) refl where
       by : (b : Bool) → (is_up r.past && is_processing (stage a r.past)) ≡ b → IsWholeAtCommit g (if b then going_on r.past (done_entries a made) else r).past
       by true h = whole_report g c r.past a made m w (both {x = is_up r.past} h).1
       by false h = w
+    to (Answer v there) = by (enabled g c r.past (Ask v)) where
+      by : (b : Bool) → IsWholeAtCommit g (if b then going_on r.past (asked_entries v there) else r).past
+      by true = whole_answer g r.past v there w
+      by false = w
     to (Stop cause) = whole_stop g c r cause
     to (Start found) = by (is_up r.past) refl where
       by : (b : Bool) → is_up r.past ≡ b → IsWholeAtCommit g (if not b then opened_by g c r found else r).past

@@ -4,21 +4,23 @@ use Rattle.std.proofs.Common.{ap, sym, ◌∙◌, arith}
 use Rattle.std.proofs.lemmas.Bool.Decides.{nat_tests}
 use Rattle.tez_ids.specs.declared.TaskId.{TaskId}
 use Rattle.tez_ids.specs.declared.AttemptId.{AttemptId}
+use Rattle.tez_ids.specs.declared.VertexId.{VertexId}
 use Rattle.tez_plan.specs.Dag.{Dag, edge, vertex}
 use Rattle.tez_conf.specs.declared.values.ConfValues.{ConfValues}
 use Rattle.tez_vman.specs.declared.seen.Config.{Config}
 use Rattle.tez_events.specs.declared.KillCause.TheVariants.{Preempt as Preempted}
 use Rattle.tez_events.specs.declared.Entry.{Entry}
-use Rattle.tez_events.specs.declared.Entry.TheVariants.{Stands, Carried, Kept, Succeeded, Made, Failed, Killed, NodeLost}
+use Rattle.tez_events.specs.declared.Entry.TheVariants.{Stands, Carried, Kept, Committing, Succeeded, Made, Failed, Killed, NodeLost}
 use Rattle.tez_events.specs.declared.CoreEvent.{CoreEvent}
-use Rattle.tez_events.specs.declared.CoreEvent.TheVariants.{Open, Configure, Queue, Place, Fetch, Send, Preempt, Fail, LoseNode, LoseOutput, Restart, Ready, CommitStart, Publish, Finish, Purge}
+use Rattle.tez_events.specs.declared.CoreEvent.TheVariants.{Open, Configure, Queue, Place, Fetch, Send, Preempt, Fail, LoseNode, LoseOutput, Restart, Ready, CommitStart, Ask, Publish, Finish, Purge}
 use Rattle.tez_history.specs.Shape.{is_vertex}
-use Rattle.tez_history.specs.History.{Past, epoch, extend, stage, holder, container_of, winner, failures, config, is_committing, life, live, Stage, Unknown, InQueue, Waits, Runs, Ended}
-use Rattle.tez_history.specs.Derived.{is_processing, is_task}
+use Rattle.tez_history.specs.History.{Past, epoch, extend, stage, holder, container_of, winner, failures, config, is_committing, recorded, life, live, Stage, Unknown, InQueue, Waits, Runs, Ended}
+use Rattle.tez_history.specs.Derived.{is_processing, is_task, all_done}
 use Rattle.tez_history.specs.Steps.{enabled, entries_of, requeue, each_after, node_kills, node_withdrawals, node_loss_entries, winner_behind, done_entries}
 use Rattle.tez_history.specs.Rules.{is_at_start}
 use Rattle.tez_history.specs.Follows.{IsMade, IsOpen, IsPlaced, AllMayFollow}
-use Rattle.tez_history.specs.Runs.{Standing, Run, Found, Unfinished, AllDone, Begun, stands_if, kept_if, carried_entries, standing_entries, opened_at, opened_unless, opened_by, spent_in}
+use Rattle.tez_history.specs.Runs.{Standing, Run, Found, Unfinished, AllDone, Committed, Begun, stands_if, kept_if, carried_entries, standing_entries, committing_if, committed_entries, opened_at, opened_unless, committed_unless, opened_by, spent_in}
+use Rattle.tez_laws.specs.Laws.{answered}
 use Rattle.tez_laws.proofs.OneLive.{waits_placed}
 use Rattle.tez_laws.proofs.StepLaw.{both, event_may, done_may, made-extend, loss_may, up_open}
 use Rattle.tez_laws.proofs.Going.{extend-append}
@@ -115,12 +117,17 @@ leave_event g c past (LoseOutput t) h = leave_output (winner t past)
 leave_event g c past Restart h = absurd h
 leave_event g c past (Ready v) h = (tt, tt)
 leave_event g c past CommitStart h = (tt, tt)
+leave_event g c past (Ask v) h = tt
 leave_event g c past (Publish v) h = (tt, tt)
 leave_event g c past Finish h = (tt, tt)
 leave_event g c past Purge h = (tt, tt)
 
 pub other_step : (g : Dag) (c : ConfValues) (past : Past) (e : CoreEvent) → IsElsewhere e → IsMade g c past → enabled g c past e ≡ true → pool_view c (extend past (entries_of g c past e)) ≡ pool_view c past
 other_step g c past e l m h = leave_all g c past (entries_of g c past e) m (event_may g c past e m h) (leave_event g c past e l)
+
+pub answer_step : (c : ConfValues) (past : Past) (v : VertexId) (there : Bool) → pool_view c (answered past v there) ≡ pool_view c past
+answer_step c past v true = refl
+answer_step c past v false = refl
 
 -- ---- a new master
 
@@ -130,6 +137,7 @@ AllFound [] = ⊤
 AllFound (Stands _ _ _ ∷ es) = AllFound es
 AllFound (Carried _ _ ∷ es) = AllFound es
 AllFound (Kept _ ∷ es) = AllFound es
+AllFound (Committing _ ∷ es) = AllFound es
 AllFound (_ ∷ es) = ⊥
 
 found-append : (xs ys : List Entry) → AllFound xs → AllFound ys → AllFound (xs ++ ys)
@@ -137,6 +145,7 @@ found-append [] ys h k = k
 found-append (Stands _ _ _ ∷ xs) ys h k = found-append xs ys h k
 found-append (Carried _ _ ∷ xs) ys h k = found-append xs ys h k
 found-append (Kept _ ∷ xs) ys h k = found-append xs ys h k
+found-append (Committing _ ∷ xs) ys h k = found-append xs ys h k
 found-append (_ ∷ xs) ys h k = absurd h
 
 found-each : {X : Type 0} (part : Past → X → List Entry) → ((past : Past) (x : X) → AllFound (part past x)) → (past : Past) (xs : List X) → AllFound (each_after part past xs)
@@ -166,11 +175,23 @@ found_all g past s =
     found-append stands (carried ++ each_after (kept_if g) (extend (extend past stands) carried) s.kept) (found-each (stands_if g) (found_stands g) past s.configured)
     (found-append carried (each_after (kept_if g) (extend (extend past stands) carried) s.kept) (found_carried s.failed) (found-each (kept_if g) (found_kept g) (extend (extend past stands) carried) s.kept))
 
+found_committing : (g : Dag) (past : Past) (n : ℕ) → AllFound (committing_if g past n)
+found_committing g past n = by (all_done g past && nat_le (recorded past) n) where
+  by : (b : Bool) → AllFound (if b then Committing n ∷ [] else [])
+  by true = tt
+  by false = tt
+
+found_committed : (g : Dag) (past : Past) (s : Standing) (n : ℕ) → AllFound (committed_entries g past s n)
+found_committed g past s n =
+    let stands = standing_entries g past s in
+    found-append stands (committing_if g (extend past stands) n) (found_all g past s) (found_committing g (extend past stands) n)
+
 leave_found : (c : ConfValues) (past : Past) (es : List Entry) → AllFound es → pool_view c (extend past es) ≡ pool_view c past
 leave_found c past [] h = refl
 leave_found c past (Stands v t b ∷ es) h = leave_found c (Stands v t b ∷ past) es h
 leave_found c past (Carried t n ∷ es) h = leave_found c (Carried t n ∷ past) es h
 leave_found c past (Kept a ∷ es) h = leave_found c (Kept a ∷ past) es h
+leave_found c past (Committing n ∷ es) h = leave_found c (Committing n ∷ past) es h
 leave_found c past (_ ∷ es) h = absurd h
 
 pub opened_step : (g : Dag) (c : ConfValues) (r : Run) (found : Found) → IsTrue (is_at_start r.past) → pool_view c (opened_by g c r found).past ≡ pool_view c r.past
@@ -180,3 +201,9 @@ opened_step g c r (Unfinished s) at = by (spent_in c s) where
   by : (o : Option (TaskId × ℕ)) → pool_view c (opened_unless g r s o).past ≡ pool_view c r.past
   by (Some x) = refl
   by None = leave_found c (opened_at s r.past) (standing_entries g (opened_at s r.past) s) (found_all g (opened_at s r.past) s) ∙ leave_opened c r.past (record { 0 = suc (max s.epoch (epoch r.past)) }) at
+opened_step g c r (Committed s n) at = by (spent_in c s) where
+  by : (o : Option (TaskId × ℕ)) → pool_view c (committed_unless g r s n o).past ≡ pool_view c r.past
+  by (Some x) = refl
+  by None =
+      leave_found c (opened_at s r.past) (committed_entries g (opened_at s r.past) s n) (found_committed g (opened_at s r.past) s n)
+      ∙ leave_opened c r.past (record { 0 = suc (max s.epoch (epoch r.past)) }) at

@@ -1,8 +1,9 @@
 -- What the laws say of the pool after a history.
-use Rattle.std.specs.Prelude.{◌≡◌, ◌≤◌, ◌<◌, ℕ, List, IsTrue, true, [], Option, Some, None, is_some, false, IfSome, IfNone, position, slice_get}
+use Rattle.std.specs.Prelude.{◌≡◌, ◌≤◌, ◌<◌, ℕ, Bool, List, IsTrue, true, [], Option, Some, None, is_some, false, IfSome, IfNone, position, slice_get}
 use Rattle.std.specs.List.{find, filter_map}
 use Rattle.std.specs.Option.{option_map}
 use Rattle.tez_ids.specs.declared.AttemptId.{AttemptId}
+use Rattle.tez_ids.specs.declared.VertexId.{VertexId}
 use Rattle.tez_plan.specs.Dag.{Dag}
 use Rattle.tez_plan.specs.Faults.{IsValid}
 use Rattle.tez_conf.specs.declared.values.ConfValues.{ConfValues}
@@ -15,6 +16,7 @@ use Rattle.tez_history.specs.Steps.{enabled, is_running, some_place, some_preemp
 use Rattle.tez_history.specs.Rules.{is_at_start}
 use Rattle.tez_history.specs.Follows.{IsMade}
 use Rattle.tez_history.specs.Runs.{Run, Found, Happening, opened_by, stopped, run, not_begun}
+use Rattle.tez_laws.specs.Laws.{answered}
 use Rattle.tez_pool.specs.Table.{who, is_free, place_held, place_of, container_given, held_on, after_place, after_sent, after_release, after_loss, after_clear}
 use Rattle.tez_pool.specs.Victim.{IsGreatest, candidates}
 use Rattle.tez_pool_view.specs.Elsewhere.{IsElsewhere}
@@ -108,6 +110,10 @@ RunIsWhole g c hs = IsValid g → 1 ≤ c.max_failed → IsWholeAtCommit g (run 
 abbrev pub LeavesPool : Dag → ConfValues → Past → CoreEvent → Type 0
 LeavesPool g c past e =
     IsElsewhere e → IsMade g c past → enabled g c past e ≡ true → pool_view c (extend past (entries_of g c past e)) ≡ pool_view c past
+
+-- and so does what the store answers of a sink
+abbrev pub AnswerLeaves : ConfValues → Past → VertexId → Type 0
+AnswerLeaves c past v = (there : Bool) → pool_view c (answered past v there) ≡ pool_view c past
 
 -- ---- masters change
 

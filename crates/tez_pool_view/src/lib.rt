@@ -6,6 +6,7 @@
 
 ghost use Rattle.std.specs.Prelude.{◌≡◌, ℕ, List, []};
 ghost use Rattle.tez_ids.specs.declared.AttemptId.{AttemptId};
+ghost use Rattle.tez_ids.specs.declared.VertexId.{VertexId};
 ghost use Rattle.tez_plan.specs.Dag.{Dag};
 ghost use Rattle.tez_conf.specs.declared.values.ConfValues.{ConfValues};
 ghost use Rattle.tez_events.specs.declared.StopCause.{StopCause};
@@ -13,10 +14,11 @@ ghost use Rattle.tez_events.specs.declared.CoreEvent.{CoreEvent};
 ghost use Rattle.tez_history.specs.History.{Past};
 ghost use Rattle.tez_history.specs.Follows.{IsMade};
 ghost use Rattle.tez_history.specs.Runs.{Run, Found, Happening};
+ghost use Rattle.tez_laws.specs.Laws.{AnswersKeep};
 ghost use Rattle.tez_pool.specs.Table.{new_pool};
 ghost use Rattle.tez_pool.specs.Victim.{AreIn};
 ghost use Rattle.tez_pool_view.specs.View.{pool_view, IsWholeAtCommit};
-ghost use Rattle.tez_pool_view.specs.Statements.{HoldsNoneBefore, GivesContainer, PlaceIsHeld, OrderIsOut, PreemptFrees, FailureFrees, ReportFrees, LossFrees, NobodyHolds, EventKeepsWhole, ReportKeepsWhole, StopKeepsWhole, StartKeepsWhole, RunIsWhole, LeavesPool, StopFrees, StartLeavesPool, FreeIsFirst, SomeIsFree, PlaceIsTold, ContainerIsTold, HolderIsTold, LifeIsTold, HoldersAreTold, VictimGivesWay, NoneGivesWayToFree, NoneGivesWayToNone, FreePlaceIsGiven};
+ghost use Rattle.tez_pool_view.specs.Statements.{HoldsNoneBefore, GivesContainer, PlaceIsHeld, OrderIsOut, PreemptFrees, FailureFrees, ReportFrees, LossFrees, NobodyHolds, EventKeepsWhole, ReportKeepsWhole, StopKeepsWhole, StartKeepsWhole, RunIsWhole, LeavesPool, AnswerLeaves, StopFrees, StartLeavesPool, FreeIsFirst, SomeIsFree, PlaceIsTold, ContainerIsTold, HolderIsTold, LifeIsTold, HoldersAreTold, VictimGivesWay, NoneGivesWayToFree, NoneGivesWayToNone, FreePlaceIsGiven};
 
 /// Before the first entry the pool is new.
 pub fn pool_is_new()
@@ -51,21 +53,23 @@ pub fn node_is_lost()
 {}
 
 /// From the commit on every task has a winner, and so nobody holds a place: so it is before the
-/// first entry, each event, report, stop and start keeps it, and it holds of every run of a valid
-/// plan, which has a sink.
+/// first entry, each event, report, answer of the store, stop and start keeps it, also one that takes
+/// up a commit, and it holds of every run of a valid plan, which has a sink.
 pub fn nobody_holds_a_place_in_the_commit()
     ensures nobody { (g : Dag) (c : ConfValues) (past : Past) → NobodyHolds g c past }
     ensures begins { (g : Dag) → IsWholeAtCommit g [] }
     ensures event { (g : Dag) (c : ConfValues) (past : Past) (e : CoreEvent) → EventKeepsWhole g c past e }
     ensures report { (g : Dag) (c : ConfValues) (past : Past) (a : AttemptId) → ReportKeepsWhole g c past a }
+    ensures asked { (g : Dag) (c : ConfValues) → AnswersKeep g c (IsWholeAtCommit g) }
     ensures stop { (g : Dag) (c : ConfValues) (r : Run) (cause : StopCause) → StopKeepsWhole g c r cause }
     ensures start { (g : Dag) (c : ConfValues) (r : Run) (found : Found) → StartKeepsWhole g c r found }
     ensures run { (g : Dag) (c : ConfValues) (hs : List Happening) → RunIsWhole g c hs }
 {}
 
-/// Every other event leaves the pool as it is.
+/// Every other event leaves the pool as it is, and so does what the store answers of a sink.
 pub fn pool_is_left()
-    ensures { (g : Dag) (c : ConfValues) (past : Past) (e : CoreEvent) → LeavesPool g c past e }
+    ensures event { (g : Dag) (c : ConfValues) (past : Past) (e : CoreEvent) → LeavesPool g c past e }
+    ensures asked { (c : ConfValues) (past : Past) (v : VertexId) → AnswerLeaves c past v }
 {}
 
 /// A stop frees every place, and a new master leaves the pool as it is, whatever it finds.

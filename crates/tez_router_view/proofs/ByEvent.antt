@@ -17,6 +17,7 @@ use Rattle.tez_history.specs.History.{Past, extend, stage, live, winner, config,
 use Rattle.tez_history.specs.Derived.{is_waiting, is_queued, is_processing, is_on_shelf, configures, is_task, next_attempt, source_of_input}
 use Rattle.tez_history.specs.Steps.{enabled, is_running, entries_of, requeue, winner_behind, fetch_entries, withdrawal, output_lost_entries, node_loss_entries}
 use Rattle.tez_history.specs.Follows.{IsMade}
+use Rattle.tez_laws.specs.Laws.{answered}
 use Rattle.tez_laws.proofs.OneLive.{one_live, running_alive}
 use Rattle.tez_laws.proofs.Tasks.{unscheduled, winner_task}
 use Rattle.tez_laws.proofs.StepLaw.{both}
@@ -152,6 +153,10 @@ output_leaves g c past t = by (winner t past) where
   by : (o : Option AttemptId) → router_view g (extend past (output_lost_entries o)) ≡ router_view g past
   by None = refl
   by (Some w) = refl
+
+pub answer_leaves : (g : Dag) (past : Past) (v : VertexId) (there : Bool) → router_view g (answered past v there) ≡ router_view g past
+answer_leaves g past v true = refl
+answer_leaves g past v false = refl
 
 -- a node that is lost in the commit
 pub late_loss_leaves : (g : Dag) (c : ConfValues) (past : Past) (slot : ℕ) → is_committing past ≡ true → router_view g (extend past (entries_of g c past (LoseNode slot))) ≡ router_view g past

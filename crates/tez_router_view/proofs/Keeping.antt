@@ -5,25 +5,27 @@ use Rattle.std.proofs.lemmas.Bool.Decides.{nat_tests}
 use Rattle.tez_ids.specs.declared.VertexId.{VertexId}
 use Rattle.tez_ids.specs.declared.AttemptId.{AttemptId}
 use Rattle.tez_events.specs.declared.Entry.{Entry}
-use Rattle.tez_events.specs.declared.Entry.TheVariants.{Opened, Over, Stands, Configured, Fetched, ReadError, InputFailed, Succeeded, Made, Failed, NodeLost}
+use Rattle.tez_events.specs.declared.Entry.TheVariants.{Opened, Over, Stands, Configured, Fetched, ReadError, InputFailed, Succeeded, Made, Failed, NodeLost, Committing}
 use Rattle.tez_events.specs.declared.CoreEvent.{CoreEvent}
-use Rattle.tez_events.specs.declared.CoreEvent.TheVariants.{Open, Configure, Queue, Place, Fetch, Send, Preempt, Fail, LoseNode, LoseOutput, Restart, Ready, CommitStart, Publish, Finish, Purge}
+use Rattle.tez_events.specs.declared.CoreEvent.TheVariants.{Open, Configure, Queue, Place, Fetch, Send, Preempt, Fail, LoseNode, LoseOutput, Restart, Ready, CommitStart, Ask, Publish, Finish, Purge}
 use Rattle.tez_plan.specs.Dag.{Dag, edge, tasks_of as planned, vertex}
 use Rattle.tez_plan.specs.Faults.{IsValid}
 use Rattle.tez_conf.specs.declared.values.ConfValues.{ConfValues}
 use Rattle.tez_vman.specs.declared.seen.Config.{Config}
 use Rattle.tez_vman.specs.Rules.{config as shape}
-use Rattle.tez_history.specs.History.{Past, extend, config, winner, holder, life, failures, is_committing}
-use Rattle.tez_history.specs.Derived.{task_count, notices, tasks, places_on, is_on_node, is_on_shelf}
+use Rattle.tez_history.specs.History.{Past, extend, config, winner, holder, life, failures, is_committing, recorded}
+use Rattle.tez_history.specs.Derived.{task_count, notices, tasks, places_on, is_on_node, is_on_shelf, all_done}
 use Rattle.tez_history.specs.Steps.{enabled, entries_of, done_entries, each_after, requeue, withdrawal, killed_by_node, kill_at, withdrawn_if, withdraw_lost, node_kills, node_withdrawals, fetch_entries, winner_behind, output_lost_entries}
 use Rattle.tez_history.specs.Follows.{IsMade, MayFollow, AllMayFollow}
+use Rattle.tez_laws.specs.Laws.{answered, taken_up}
+use Rattle.tez_laws.proofs.Going.{extend-append}
 use Rattle.tez_laws.proofs.StepLaw.{AllNotices, notices_are, event_may}
 use Rattle.tez_router_view.specs.View.{FitsPlan}
 use Rattle.tez_router_view.specs.Events.{FitsEntry}
 use Rattle.tez_router_view.proofs.Fitting.{configures_few}
 use Rattle.tez_lists.specs.Numbers.{In}
 use Rattle.tez_history.specs.Shape.{is_vertex}
-use Rattle.tez_history.specs.Runs.{Standing, stands_if, opened_at, standing_entries}
+use Rattle.tez_history.specs.Runs.{Standing, stands_if, opened_at, standing_entries, committing_if}
 use Rattle.tez_router_view.proofs.Opening.{stood, ends_so, kept_keep, carried_keep}
 
 -- ---- by entries
@@ -139,6 +141,7 @@ fit-event g c past (LoseOutput t) = fit-output g (winner t past)
 fit-event g c past Restart = (tt, tt)
 fit-event g c past (Ready v) = (tt, tt)
 fit-event g c past CommitStart = (tt, tt)
+fit-event g c past (Ask v) = tt
 fit-event g c past (Publish v) = (tt, tt)
 fit-event g c past Finish = (tt, tt)
 fit-event g c past Purge = (tt, tt)
@@ -152,6 +155,10 @@ made_fits g past a (x ∷ xs) fits = made_fits g (Made a (edge x.0) x.1 ∷ past
 
 pub report_fits : (g : Dag) (past : Past) (a : AttemptId) (made : List (ℕ × ℕ)) → FitsPlan g past → FitsPlan g (extend past (done_entries a made))
 report_fits g past a made fits = made_fits g (Succeeded a ∷ past) a made fits
+
+pub answer_fits : (g : Dag) (past : Past) (v : VertexId) (there : Bool) → FitsPlan g past → FitsPlan g (answered past v there)
+answer_fits g past v true fits = λ u. fits u
+answer_fits g past v false fits = λ u. fits u
 
 -- ---- what a new master finds
 
@@ -174,3 +181,15 @@ opened_fits g past s few v =
     (ap (task_count g v) (ends_so g (opened_at s past) s) ∙ kept_keep g (λ p. task_count g v p) (λ p w. refl) (stood g (opened_at s past) s) s.kept
     ∙ carried_keep (λ p. task_count g v p) (λ p t n. refl) (extend (opened_at s past) (each_after (stands_if g) (opened_at s past) s.configured)) s.failed))
     (stands_fit g (opened_at s past) s.configured (λ w. at_most (planned g w)) few v)
+
+committing_fits : (g : Dag) (past : Past) (n : ℕ) → FitsPlan g past → FitsPlan g (extend past (committing_if g past n))
+committing_fits g past n fits = by (all_done g past && nat_le (recorded past) n) where
+  by : (b : Bool) → FitsPlan g (extend past (if b then Committing n ∷ [] else []))
+  by true = λ v. fits v
+  by false = fits
+
+pub taken_up_fits : (g : Dag) (past : Past) (s : Standing) (n : ℕ) → ((x : ℕ × Config) → In x s.configured → x.1.tasks ≤ planned g x.0) → FitsPlan g (taken_up g past s n)
+taken_up_fits g past s n few =
+    let start : Past = opened_at s past in
+    let stands : List Entry = standing_entries g start s in
+    subst (FitsPlan g) (sym (extend-append start stands (committing_if g (extend start stands) n))) (committing_fits g (extend start stands) n (opened_fits g past s few))

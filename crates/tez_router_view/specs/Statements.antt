@@ -1,5 +1,5 @@
 -- What the laws say of the router after a history.
-use Rattle.std.specs.Prelude.{◌≡◌, ◌==◌, ◌<◌, ◌≤◌, ◌∷◌, ◌++◌, [], ℕ, List, map, suc, slice_get, IsTrue, true, false, not, ◌&&◌, is_some, None, Some, if◌then◌else◌}
+use Rattle.std.specs.Prelude.{◌≡◌, ◌==◌, ◌<◌, ◌≤◌, ◌∷◌, ◌++◌, [], ℕ, Bool, List, map, suc, slice_get, IsTrue, true, false, not, ◌&&◌, is_some, None, Some, if◌then◌else◌}
 use Rattle.std.specs.List.{find, filter, flat_map}
 use Rattle.std.specs.Option.{option_map}
 use Rattle.tez_ids.specs.declared.TaskId.{TaskId}
@@ -13,7 +13,7 @@ use Rattle.tez_conf.specs.declared.values.ConfValues.{ConfValues}
 use Rattle.tez_vman.specs.declared.seen.Config.{Config}
 use Rattle.tez_events.specs.declared.StopCause.{StopCause}
 use Rattle.tez_events.specs.declared.Entry.{Entry}
-use Rattle.tez_events.specs.declared.Entry.TheVariants.{Stands, Carried, Kept, NodeLost, ReadError, Stopped}
+use Rattle.tez_events.specs.declared.Entry.TheVariants.{Stands, Carried, Kept, Committing, NodeLost, ReadError, Stopped}
 use Rattle.tez_events.specs.declared.CoreEvent.{CoreEvent}
 use Rattle.tez_events.specs.declared.CoreEvent.TheVariants.{Configure, Queue, Place, Fetch, Send, Preempt, Fail, LoseNode, LoseOutput, Ready, CommitStart, Publish, Finish, Purge}
 use Rattle.tez_history.specs.History.{Past, extend, stage, winner, life, is_fetched, is_committing}
@@ -21,6 +21,7 @@ use Rattle.tez_history.specs.Runs.{Standing, opened_at, standing_entries}
 use Rattle.tez_history.specs.Derived.{starts_epoch, Input, is_task, inputs, waiting_attempts, is_waiting, is_processing, is_on_shelf, all_fetched, notices}
 use Rattle.tez_history.specs.Steps.{enabled, entries_of, done_entries, withdrawal, winner_behind, is_running, some_fetch, some_send}
 use Rattle.tez_history.specs.Follows.{IsMade, MayFollow}
+use Rattle.tez_laws.specs.Laws.{answered, taken_up}
 use Rattle.tez_router.specs.Planned.{planned_router}
 use Rattle.tez_router.specs.Table.{after_announce, after_withdraw, after_admit, after_dismiss, after_fetched, source_in, fetched_in, missing_in, notices_in, without, fetches_in, first_complete}
 use Rattle.tez_router_view.specs.View.{router_view, links_view, FitsPlan}
@@ -182,6 +183,10 @@ ReadyLeaves g c past v = router_view g (extend past (entries_of g c past (Ready 
 abbrev pub CommitLeaves : Dag → ConfValues → Past → Type 0
 CommitLeaves g c past = router_view g (extend past (entries_of g c past CommitStart)) ≡ router_view g past
 
+-- what the store answers of a sink
+abbrev pub AnswerLeaves : Dag → Past → VertexId → Type 0
+AnswerLeaves g past v = (there : Bool) → router_view g (answered past v there) ≡ router_view g past
+
 -- a sink that is published
 abbrev pub PublishLeaves : Dag → ConfValues → Past → VertexId → Type 0
 PublishLeaves g c past v = router_view g (extend past (entries_of g c past (Publish v))) ≡ router_view g past
@@ -194,9 +199,13 @@ FinishLeaves g c past = router_view g (extend past (entries_of g c past Finish))
 abbrev pub PurgeLeaves : Dag → ConfValues → Past → Type 0
 PurgeLeaves g c past = router_view g (extend past (entries_of g c past Purge)) ≡ router_view g past
 
--- and failures that are carried over
+-- failures that are carried over
 abbrev pub CarriedLeaves : Dag → Past → TaskId → ℕ → Type 0
 CarriedLeaves g past t n = router_view g (Carried t n ∷ past) ≡ router_view g past
+
+-- and a commit that is taken up
+abbrev pub CommittingLeaves : Dag → Past → ℕ → Type 0
+CommittingLeaves g past n = router_view g (Committing n ∷ past) ≡ router_view g past
 
 -- ---- tasks fit the plan
 
@@ -213,6 +222,10 @@ abbrev pub OpenFits : Dag → Past → Standing → Type 0
 OpenFits g past s =
     ((x : ℕ × Config) → In x s.configured → x.1.tasks ≤ planned g x.0)
     → FitsPlan g (extend (opened_at s past) (standing_entries g (opened_at s past) s))
+
+-- also where it takes up a commit
+abbrev pub TakenUpFits : Dag → Past → Standing → ℕ → Type 0
+TakenUpFits g past s n = ((x : ℕ × Config) → In x s.configured → x.1.tasks ≤ planned g x.0) → FitsPlan g (taken_up g past s n)
 
 -- and each report
 abbrev pub ReportFits : Dag → Past → AttemptId → List (ℕ × ℕ) → Type 0

@@ -17,12 +17,13 @@ ghost use Rattle.tez_events.specs.declared.CoreEvent.{CoreEvent};
 ghost use Rattle.tez_history.specs.History.{Past};
 ghost use Rattle.tez_history.specs.Runs.{Standing};
 ghost use Rattle.tez_history.specs.Derived.{Input};
+ghost use Rattle.tez_laws.specs.Laws.{AnswersKeep};
 ghost use Rattle.tez_router.specs.State.{RouterState};
 ghost use Rattle.tez_router.specs.Planned.{planned_router};
 ghost use Rattle.tez_router.specs.Table.{without};
 ghost use Rattle.tez_router_view.specs.View.{router_view, FitsPlan};
 ghost use Rattle.tez_router_view.specs.Events.{after_dismisses};
-ghost use Rattle.tez_router_view.specs.Statements.{StartIsPlanned, StopEmpties, OpenCanSetEdges, OpenSetsAndAnnounces, DoneAnnounces, KeptAnnounces, WithdrawalTells, WithdrawalLines, PlaceAdmits, SendDismisses, PreemptDismisses, FoundIsFetched, MissedWithdraws, MissedLines, ConfigureCanSetEdges, ConfigureSetsEdges, StandsCanSetEdges, StandsSetsEdges, LossDismissesAndWithdraws, LossLines, LateLossLeaves, QueueLeaves, FailureLeaves, OutputLossLeaves, ReadyLeaves, CommitLeaves, PublishLeaves, FinishLeaves, PurgeLeaves, CarriedLeaves, EntryFits, EventFits, OpenFits, ReportFits, NoticesAreTold, NoneIsTold, SourceIsTold, FetchedIsTold, FetchedBehindIsTold, MissingIsTold, WaitingIsListed, FetchIsTested, SendIsTested, FetchesAreEnabled, FetchIsChosen, SendIsChosen};
+ghost use Rattle.tez_router_view.specs.Statements.{StartIsPlanned, StopEmpties, OpenCanSetEdges, OpenSetsAndAnnounces, DoneAnnounces, KeptAnnounces, WithdrawalTells, WithdrawalLines, PlaceAdmits, SendDismisses, PreemptDismisses, FoundIsFetched, MissedWithdraws, MissedLines, ConfigureCanSetEdges, ConfigureSetsEdges, StandsCanSetEdges, StandsSetsEdges, LossDismissesAndWithdraws, LossLines, LateLossLeaves, QueueLeaves, FailureLeaves, OutputLossLeaves, ReadyLeaves, CommitLeaves, AnswerLeaves, PublishLeaves, FinishLeaves, PurgeLeaves, CarriedLeaves, CommittingLeaves, EntryFits, EventFits, OpenFits, TakenUpFits, ReportFits, NoticesAreTold, NoneIsTold, SourceIsTold, FetchedIsTold, FetchedBehindIsTold, MissingIsTold, WaitingIsListed, FetchIsTested, SendIsTested, FetchesAreEnabled, FetchIsChosen, SendIsChosen};
 
 /// Where a run begins, and where a master opens, the router is that of the plan. After a stop nothing
 /// is won and nobody is admitted, and the edges keep their managers until the next open.
@@ -87,17 +88,20 @@ pub fn node_is_lost()
     ensures dismissals { (s : RouterState) (gone : List AttemptId) → after_dismisses s gone ≡ without s gone }
 {}
 
-/// Every other event leaves the router as it is, and so do the failures that a new master reads.
+/// Every other event leaves the router as it is, and so do what the store answers of a sink, and the
+/// failures that a new master reads and the commit that it takes up.
 pub fn others_leave_it()
     ensures queue { (g : Dag) (c : ConfValues) (past : Past) (t : TaskId) → QueueLeaves g c past t }
     ensures fail { (g : Dag) (c : ConfValues) (past : Past) (a : AttemptId) → FailureLeaves g c past a }
     ensures output { (g : Dag) (c : ConfValues) (past : Past) (t : TaskId) → OutputLossLeaves g c past t }
     ensures ready { (g : Dag) (c : ConfValues) (past : Past) (v : VertexId) → ReadyLeaves g c past v }
     ensures commit { (g : Dag) (c : ConfValues) (past : Past) → CommitLeaves g c past }
+    ensures asked { (g : Dag) (past : Past) (v : VertexId) → AnswerLeaves g past v }
     ensures publish { (g : Dag) (c : ConfValues) (past : Past) (v : VertexId) → PublishLeaves g c past v }
     ensures finish { (g : Dag) (c : ConfValues) (past : Past) → FinishLeaves g c past }
     ensures purge { (g : Dag) (c : ConfValues) (past : Past) → PurgeLeaves g c past }
     ensures carried { (g : Dag) (past : Past) (t : TaskId) (n : ℕ) → CarriedLeaves g past t n }
+    ensures committing { (g : Dag) (past : Past) (n : ℕ) → CommittingLeaves g past n }
 {}
 
 /// In a run of a valid plan no vertex ever has more tasks than the plan gives it, if none has that
@@ -107,7 +111,9 @@ pub fn tasks_fit_the_plan()
     ensures entry { (g : Dag) (c : ConfValues) (past : Past) (e : Entry) → EntryFits g c past e }
     ensures event { (g : Dag) (c : ConfValues) (past : Past) (e : CoreEvent) → EventFits g c past e }
     ensures opened { (g : Dag) (past : Past) (s : Standing) → OpenFits g past s }
+    ensures taken_up { (g : Dag) (past : Past) (s : Standing) (n : ℕ) → TakenUpFits g past s n }
     ensures report { (g : Dag) (past : Past) (a : AttemptId) (made : List (ℕ × ℕ)) → ReportFits g past a made }
+    ensures asked { (g : Dag) (c : ConfValues) → AnswersKeep g c (FitsPlan g) }
 {}
 
 /// What the router answers, in the words of the model. The notices of a task are those of its

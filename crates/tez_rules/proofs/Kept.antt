@@ -10,7 +10,7 @@ use Rattle.tez_conf.specs.declared.values.ConfValues.{ConfValues}
 use Rattle.tez_events.specs.declared.Entry.{Entry}
 use Rattle.tez_events.specs.declared.Entry.TheVariants.{Opened, Fetched, ReadError, Made, Failed, NodeLost, Rerun}
 use Rattle.tez_events.specs.declared.CoreEvent.{CoreEvent}
-use Rattle.tez_events.specs.declared.CoreEvent.TheVariants.{Open, Configure, Queue, Place, Fetch, Send, Preempt, Fail, LoseNode, LoseOutput, Restart, Ready, CommitStart, Publish, Finish, Purge}
+use Rattle.tez_events.specs.declared.CoreEvent.TheVariants.{Open, Configure, Queue, Place, Fetch, Send, Preempt, Fail, LoseNode, LoseOutput, Restart, Ready, CommitStart, Ask, Publish, Finish, Purge}
 use Rattle.tez_history.specs.History.{Past, extend, stage, winner, life, failures, is_committing}
 use Rattle.tez_history.specs.Derived.{is_processing, is_on_shelf}
 use Rattle.tez_history.specs.Steps.{enabled, entries_of, requeue, withdrawal, node_kills, node_withdrawals, fetch_entries, winner_behind, output_lost_entries, done_entries}
@@ -79,6 +79,7 @@ event_adds g c past (LoseOutput t) h = output_adds (winner t past)
 event_adds g c past Restart h = absurd h
 event_adds g c past (Ready v) h = ((refl, tt), tt)
 event_adds g c past CommitStart h = ((refl, tt), tt)
+event_adds g c past (Ask v) h = absurd h
 event_adds g c past (Publish v) h = ((refl, tt), tt)
 event_adds g c past Finish h = ((refl, tt), tt)
 event_adds g c past Purge h = ((refl, tt), tt)

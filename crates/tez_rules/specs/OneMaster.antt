@@ -12,7 +12,7 @@ use Rattle.std.specs.List.{AllByRecursion}
 use Rattle.tez_plan.specs.Dag.{Dag}
 use Rattle.tez_conf.specs.declared.values.ConfValues.{ConfValues}
 use Rattle.tez_events.specs.declared.Entry.{Entry}
-use Rattle.tez_events.specs.declared.Entry.TheVariants.{Opened, Over, Stands, Carried, Kept, Configured, Queued, Placed, Fetched, ReadError, InputFailed, Ordered, Succeeded, Made, Failed, Killed, NodeLost, OutputLost, Rerun, Stopped, Ready, Published, CommitStarted, Finished, Purged}
+use Rattle.tez_events.specs.declared.Entry.TheVariants.{Opened, Over, Stands, Carried, Kept, Configured, Queued, Placed, Fetched, ReadError, InputFailed, Ordered, Succeeded, Made, Failed, Killed, NodeLost, OutputLost, Rerun, Stopped, Committing, Ready, Asked, Settled, Published, CommitStarted, Finished, Purged}
 use Rattle.tez_history.specs.History.{Past}
 use Rattle.tez_history.specs.Rules.{withdrawals_right}
 use Rattle.tez_laws.specs.Laws.{Obeys}
@@ -38,7 +38,10 @@ comes_in_one begun (NodeLost slot l) = true
 comes_in_one begun (OutputLost w) = true
 comes_in_one begun (Rerun w) = true
 comes_in_one begun (Stopped cause) = false
+comes_in_one begun (Committing n) = false
 comes_in_one begun (Ready v) = true
+comes_in_one begun (Asked v) = false
+comes_in_one begun (Settled v) = false
 comes_in_one begun (Published v) = true
 comes_in_one begun CommitStarted = true
 comes_in_one begun Finished = true

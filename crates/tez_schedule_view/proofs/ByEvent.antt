@@ -11,12 +11,13 @@ use Rattle.tez_vman.specs.declared.seen.Config.{Config}
 use Rattle.tez_vman.specs.Rules.{config as shape}
 use Rattle.tez_events.specs.declared.KillCause.TheVariants.{Preempt as Preempted}
 use Rattle.tez_events.specs.declared.Entry.{Entry}
-use Rattle.tez_events.specs.declared.Entry.TheVariants.{Fetched, ReadError, Failed, OutputLost}
+use Rattle.tez_events.specs.declared.Entry.TheVariants.{Fetched, ReadError, Failed, OutputLost, Asked, Settled}
 use Rattle.tez_events.specs.declared.CoreEvent.TheVariants.{Configure, Fetch, Preempt, Fail, LoseOutput}
 use Rattle.tez_history.specs.History.{Past, extend, stage, winner, failures}
 use Rattle.tez_history.specs.Derived.{configures, is_on_shelf}
 use Rattle.tez_history.specs.Steps.{enabled, entries_of, requeue, withdrawal, fetch_entries, output_lost_entries, winner_behind, is_running}
 use Rattle.tez_history.specs.Follows.{IsMade, AllMayFollow}
+use Rattle.tez_laws.specs.Laws.{answered}
 use Rattle.tez_laws.proofs.OneLive.{waits_placed, placed_alive, running_alive}
 use Rattle.tez_laws.proofs.StepLaw.{both, event_may}
 use Rattle.tez_schedule.specs.Table.{after_configure, after_withdraw}
@@ -71,3 +72,7 @@ output_view g c past t = by (winner t past) where
   by : (o : Option AttemptId) → schedule_view g c (extend past (output_lost_entries o)) ≡ schedule_view g c past
   by None = refl
   by (Some w) = silent_view g c past (OutputLost w) tt
+
+pub answer_view : (g : Dag) (c : ConfValues) (past : Past) (v : VertexId) (there : Bool) → schedule_view g c (answered past v there) ≡ schedule_view g c past
+answer_view g c past v true = silent_view g c past (Settled v) tt
+answer_view g c past v false = silent_view g c past (Asked v) tt

@@ -3,6 +3,7 @@ use Rattle.std.specs.Prelude.{◌≡◌, ℕ, suc, nat_le, ⊤, Bool, true, fals
 use Rattle.std.proofs.Common.{ap, sym, ◌∙◌, subst}
 use Rattle.tez_ids.specs.declared.EdgeId.{EdgeId}
 use Rattle.tez_ids.specs.declared.TaskId.{TaskId}
+use Rattle.tez_ids.specs.declared.VertexId.{VertexId}
 use Rattle.tez_ids.specs.declared.AttemptId.{AttemptId}
 use Rattle.tez_ids.specs.Same.{same_attempt}
 use Rattle.tez_plan.specs.Dag.{Dag, edge, vertex}
@@ -10,18 +11,19 @@ use Rattle.tez_conf.specs.declared.values.ConfValues.{ConfValues}
 use Rattle.tez_vman.specs.declared.seen.Config.{Config}
 use Rattle.tez_events.specs.declared.StopCause.{StopCause}
 use Rattle.tez_events.specs.declared.Entry.{Entry}
-use Rattle.tez_events.specs.declared.Entry.TheVariants.{Opened, Over, Stands, Carried, Kept, Queued, Placed, Fetched, ReadError, InputFailed, Ordered, Succeeded, Made, Failed, Killed, NodeLost, Stopped}
+use Rattle.tez_events.specs.declared.Entry.TheVariants.{Opened, Over, Stands, Carried, Kept, Queued, Placed, Fetched, ReadError, InputFailed, Ordered, Succeeded, Made, Failed, Killed, NodeLost, Stopped, Committing}
 use Rattle.tez_events.specs.declared.CoreEvent.{CoreEvent}
-use Rattle.tez_events.specs.declared.CoreEvent.TheVariants.{Open, Configure, Queue, Place, Fetch, Send, Preempt, Fail, LoseNode, LoseOutput, Restart, Ready, CommitStart, Publish, Finish, Purge}
+use Rattle.tez_events.specs.declared.CoreEvent.TheVariants.{Open, Configure, Queue, Place, Fetch, Send, Preempt, Fail, LoseNode, LoseOutput, Restart, Ready, CommitStart, Ask, Publish, Finish, Purge}
 use Rattle.tez_history.specs.Shape.{is_vertex}
-use Rattle.tez_history.specs.History.{Past, extend, Stage, InQueue, Waits, Ended, stage, config, winner, holder, life, failures, made_bytes, is_committing}
-use Rattle.tez_history.specs.Derived.{notices, tasks, is_task, is_processing, is_on_shelf, is_on_node, places_on}
+use Rattle.tez_history.specs.History.{Past, extend, Stage, InQueue, Waits, Ended, stage, config, winner, holder, life, failures, made_bytes, is_committing, recorded}
+use Rattle.tez_history.specs.Derived.{notices, tasks, is_task, is_processing, is_on_shelf, is_on_node, places_on, all_done}
 use Rattle.tez_history.specs.Steps.{enabled, entries_of, done_entries, each_after, requeue, withdrawal, killed_by_node, kill_at, withdrawn_if, withdraw_lost, node_kills, node_withdrawals, node_loss_entries, fetch_entries, output_lost_entries, winner_behind}
 use Rattle.tez_history.specs.Follows.{IsMade, IsAlive, MayFollow, AllMayFollow}
-use Rattle.tez_history.specs.Runs.{Standing, opened_at, standing_entries, stands_if, kept_if, carried_entries}
-use Rattle.tez_laws.specs.Laws.{was_ever_queued}
+use Rattle.tez_history.specs.Runs.{Standing, opened_at, standing_entries, stands_if, kept_if, carried_entries, committing_if}
+use Rattle.tez_laws.specs.Laws.{was_ever_queued, answered, taken_up}
 use Rattle.tez_laws.proofs.Same.{same_attempt-true, same_attempt-refl}
 use Rattle.tez_laws.proofs.OneLive.{running_alive, sent_alive}
+use Rattle.tez_laws.proofs.Going.{extend-append}
 use Rattle.tez_laws.proofs.Fresh.{never_queued}
 use Rattle.tez_laws.proofs.StepLaw.{AllNotices, notices_are, event_may}
 use Rattle.tez_schedule_view.specs.Events.{HasNoBytes, TellsInTime}
@@ -164,6 +166,7 @@ untold_event g c past (LoseOutput t) = by (winner t past) where
 untold_event g c past Restart = (tt, tt)
 untold_event g c past (Ready v) = (tt, tt)
 untold_event g c past CommitStart = (tt, tt)
+untold_event g c past (Ask v) = tt
 untold_event g c past (Publish v) = (tt, tt)
 untold_event g c past Finish = (tt, tt)
 untold_event g c past Purge = (tt, tt)
@@ -204,6 +207,10 @@ report_keeps g c past a made m runs t =
 pub nothing_told : (past : Past) (a : AttemptId) → TellsInTime past → IsTrue (is_processing (stage a past)) → HasNoBytes past a
 nothing_told past a t runs = t.alive a (running_alive (stage a past) runs)
 
+pub answer_keeps : (past : Past) (v : VertexId) (there : Bool) → TellsInTime past → TellsInTime (answered past v there)
+answer_keeps past v true t = record { alive = t.alive; unknown = t.unknown }
+answer_keeps past v false t = record { alive = t.alive; unknown = t.unknown }
+
 -- ---- masters change
 
 pub stop_keeps : (past : Past) (cause : StopCause) → TellsInTime past → TellsInTime (Stopped cause ∷ past)
@@ -217,6 +224,7 @@ abbrev IsFound : Entry → Type 0
 IsFound (Stands _ _ _) = ⊤
 IsFound (Carried _ _) = ⊤
 IsFound (Kept _) = ⊤
+IsFound (Committing _) = ⊤
 IsFound _ = ⊥
 
 abbrev AllFound : List Entry → Type 0
@@ -228,6 +236,7 @@ found_tell past [] h t = t
 found_tell past (Stands v n b ∷ es) h t = found_tell (Stands v n b ∷ past) es h.1 (record { alive = t.alive; unknown = t.unknown })
 found_tell past (Carried s n ∷ es) h t = found_tell (Carried s n ∷ past) es h.1 (record { alive = t.alive; unknown = t.unknown })
 found_tell past (Kept a ∷ es) h t = found_tell (Kept a ∷ past) es h.1 (record { alive = t.alive; unknown = t.unknown })
+found_tell past (Committing n ∷ es) h t = found_tell (Committing n ∷ past) es h.1 (record { alive = t.alive; unknown = t.unknown })
 found_tell past (_ ∷ es) h t = absurd h.0
 
 found-append : (xs ys : List Entry) → AllFound xs → AllFound ys → AllFound (xs ++ ys)
@@ -254,6 +263,12 @@ found_kept g past a = by (is_task g past a.task) where
   by true = (tt, tt)
   by false = tt
 
+found_committing : (g : Dag) (past : Past) (n : ℕ) → AllFound (committing_if g past n)
+found_committing g past n = by (all_done g past && nat_le (recorded past) n) where
+  by : (b : Bool) → AllFound (if b then Committing n ∷ [] else [])
+  by true = (tt, tt)
+  by false = tt
+
 pub opened_keeps : (g : Dag) (past : Past) (s : Standing) → TellsInTime past → TellsInTime (extend (opened_at s past) (standing_entries g (opened_at s past) s))
 opened_keeps g past s t =
     let new : Past = opened_at s past in
@@ -264,3 +279,11 @@ opened_keeps g past s t =
     (found-append stands (carried ++ kept) (found_each (stands_if g) (found_stands g) new s.configured)
     (found-append carried kept (found_carried s.failed) (found_each (kept_if g) (found_kept g) (extend (extend new stands) carried) s.kept)))
     (record { alive = λ a h x. absurd h; unknown = t.unknown })
+
+pub taken_up_keeps : (g : Dag) (past : Past) (s : Standing) (n : ℕ) → TellsInTime past → TellsInTime (taken_up g past s n)
+taken_up_keeps g past s n t =
+    let new : Past = opened_at s past in
+    let stands : List Entry = standing_entries g new s in
+    let stood : Past = extend new stands in
+    subst TellsInTime (sym (extend-append new stands (committing_if g stood n)))
+    (found_tell stood (committing_if g stood n) (found_committing g stood n) (opened_keeps g past s t))

@@ -8,7 +8,7 @@ use Rattle.tez_lists.proofs.Tables.{map_below}
 use Rattle.tez_plan.specs.Dag.{Dag, tasks_of as planned}
 use Rattle.tez_conf.specs.declared.values.ConfValues.{ConfValues}
 use Rattle.tez_events.specs.declared.Entry.{Entry}
-use Rattle.tez_events.specs.declared.Entry.TheVariants.{Opened, Over, Stands, Carried, Kept, Configured, Queued, Placed, Fetched, ReadError, InputFailed, Ordered, Succeeded, Made, Failed, Killed, NodeLost, OutputLost, Rerun, Stopped, Ready, Published, CommitStarted, Finished, Purged}
+use Rattle.tez_events.specs.declared.Entry.TheVariants.{Opened, Over, Stands, Carried, Kept, Configured, Queued, Placed, Fetched, ReadError, InputFailed, Ordered, Succeeded, Made, Failed, Killed, NodeLost, OutputLost, Rerun, Stopped, Committing, Ready, Asked, Settled, Published, CommitStarted, Finished, Purged}
 use Rattle.tez_history.specs.History.{Past, is_scheduled}
 use Rattle.tez_history.specs.Derived.{to_schedule, greatest_to_schedule, starts_epoch}
 use Rattle.tez_laws.proofs.Same.{same_task-true}
@@ -42,7 +42,10 @@ IsSilent (NodeLost _ _) = ⊤
 IsSilent (OutputLost _) = ⊤
 IsSilent (Rerun _) = ⊥
 IsSilent (Stopped _) = ⊥
+IsSilent (Committing _) = ⊤
 IsSilent (Ready _) = ⊤
+IsSilent (Asked _) = ⊤
+IsSilent (Settled _) = ⊤
 IsSilent (Published _) = ⊤
 IsSilent CommitStarted = ⊤
 IsSilent Finished = ⊤
@@ -59,7 +62,10 @@ silent_view g c past (Failed a) h = ap (schedule_with (vertices_view g c past) (
 silent_view g c past (Killed a k) h = ap (schedule_with (vertices_view g c past) (edges_view g past)) (most_quiet g c past (Killed a k) refl (λ v. refl))
 silent_view g c past (NodeLost s l) h = ap (schedule_with (vertices_view g c past) (edges_view g past)) (most_quiet g c past (NodeLost s l) refl (λ v. refl))
 silent_view g c past (OutputLost a) h = ap (schedule_with (vertices_view g c past) (edges_view g past)) (most_quiet g c past (OutputLost a) refl (λ v. refl))
+silent_view g c past (Committing n) h = ap (schedule_with (vertices_view g c past) (edges_view g past)) (most_quiet g c past (Committing n) refl (λ v. refl))
 silent_view g c past (Ready v) h = ap (schedule_with (vertices_view g c past) (edges_view g past)) (most_quiet g c past (Ready v) refl (λ v. refl))
+silent_view g c past (Asked v) h = ap (schedule_with (vertices_view g c past) (edges_view g past)) (most_quiet g c past (Asked v) refl (λ v. refl))
+silent_view g c past (Settled v) h = ap (schedule_with (vertices_view g c past) (edges_view g past)) (most_quiet g c past (Settled v) refl (λ v. refl))
 silent_view g c past (Published v) h = ap (schedule_with (vertices_view g c past) (edges_view g past)) (most_quiet g c past (Published v) refl (λ v. refl))
 silent_view g c past CommitStarted h = ap (schedule_with (vertices_view g c past) (edges_view g past)) (most_quiet g c past CommitStarted refl (λ v. refl))
 silent_view g c past Finished h = ap (schedule_with (vertices_view g c past) (edges_view g past)) (most_quiet g c past Finished refl (λ v. refl))

@@ -1,5 +1,5 @@
 -- What the laws say of the schedule after a history.
-use Rattle.std.specs.Prelude.{◌≡◌, ◌≤◌, ◌&&◌, ◌∷◌, ℕ, List, length, IsTrue, Some, None, is_none, true, false, if◌then◌else◌}
+use Rattle.std.specs.Prelude.{◌≡◌, ◌≤◌, ◌&&◌, ◌∷◌, ℕ, Bool, List, length, IsTrue, Some, None, is_none, true, false, if◌then◌else◌}
 use Rattle.std.specs.List.{find}
 use Rattle.std.specs.Option.{option_map}
 use Rattle.tez_ids.specs.declared.EdgeId.{EdgeId}
@@ -11,7 +11,7 @@ use Rattle.tez_conf.specs.declared.values.ConfValues.{ConfValues}
 use Rattle.tez_vman.specs.declared.seen.Config.{Config}
 use Rattle.tez_vman.specs.Rules.{config as shape}
 use Rattle.tez_events.specs.declared.Entry.{Entry}
-use Rattle.tez_events.specs.declared.Entry.TheVariants.{Stands, Carried, Kept, Queued}
+use Rattle.tez_events.specs.declared.Entry.TheVariants.{Stands, Carried, Kept, Queued, Committing}
 use Rattle.tez_events.specs.declared.CoreEvent.{CoreEvent}
 use Rattle.tez_events.specs.declared.CoreEvent.TheVariants.{Configure, Queue, Place, Fetch, Send, Preempt, Fail, LoseNode, LoseOutput, Ready, CommitStart, Publish, Finish, Purge}
 use Rattle.tez_history.specs.Shape.{is_vertex}
@@ -20,6 +20,7 @@ use Rattle.tez_history.specs.Derived.{starts_epoch, task_count, is_configured, w
 use Rattle.tez_history.specs.Steps.{enabled, entries_of, done_entries, withdrawal, winner_behind, is_running, may_queue, some_configure, some_queue}
 use Rattle.tez_history.specs.Follows.{IsMade, MayFollow}
 use Rattle.tez_history.specs.Runs.{Standing, opened_at, standing_entries}
+use Rattle.tez_laws.specs.Laws.{answered, taken_up}
 use Rattle.tez_schedule.specs.Planned.{planned_schedule}
 use Rattle.tez_schedule.specs.Table.{seen_by, config_at, configures_at, may_queue as may_queue_in, progress_at, are_done, next_configure, next_queue, after_configure, after_schedule, after_win, after_withdraw}
 use Rattle.tez_schedule_view.specs.View.{schedule_view, progress_view, FitsPlan}
@@ -140,6 +141,10 @@ ReadyLeaves g c past v = schedule_view g c (extend past (entries_of g c past (Re
 abbrev pub CommitLeaves : Dag → ConfValues → Past → Type 0
 CommitLeaves g c past = schedule_view g c (extend past (entries_of g c past CommitStart)) ≡ schedule_view g c past
 
+-- what the store answers of a sink
+abbrev pub AnswerLeaves : Dag → ConfValues → Past → VertexId → Type 0
+AnswerLeaves g c past v = (there : Bool) → schedule_view g c (answered past v there) ≡ schedule_view g c past
+
 -- a sink that is published
 abbrev pub PublishLeaves : Dag → ConfValues → Past → VertexId → Type 0
 PublishLeaves g c past v = schedule_view g c (extend past (entries_of g c past (Publish v))) ≡ schedule_view g c past
@@ -152,9 +157,13 @@ FinishLeaves g c past = schedule_view g c (extend past (entries_of g c past Fini
 abbrev pub PurgeLeaves : Dag → ConfValues → Past → Type 0
 PurgeLeaves g c past = schedule_view g c (extend past (entries_of g c past Purge)) ≡ schedule_view g c past
 
--- and failures that are carried over
+-- failures that are carried over
 abbrev pub CarriedLeaves : Dag → ConfValues → Past → TaskId → ℕ → Type 0
 CarriedLeaves g c past t n = schedule_view g c (Carried t n ∷ past) ≡ schedule_view g c past
+
+-- and a commit that is taken up
+abbrev pub CommittingLeaves : Dag → ConfValues → Past → ℕ → Type 0
+CommittingLeaves g c past n = schedule_view g c (Committing n ∷ past) ≡ schedule_view g c past
 
 -- the greatest number of tasks that there were to schedule is never below the number of the moment
 abbrev pub IsEnough : Dag → ConfValues → ℕ → Past → Type 0
@@ -225,3 +234,7 @@ ReportTellsInTime g c past a =
 -- and each open
 abbrev pub OpenTellsInTime : Dag → Past → Standing → Type 0
 OpenTellsInTime g past s = TellsInTime past → TellsInTime (extend (opened_at s past) (standing_entries g (opened_at s past) s))
+
+-- also where it takes up a commit
+abbrev pub TakenUpTellsInTime : Dag → Past → Standing → ℕ → Type 0
+TakenUpTellsInTime g past s n = TellsInTime past → TellsInTime (taken_up g past s n)

@@ -17,10 +17,11 @@ ghost use Rattle.tez_events.specs.declared.Entry.TheVariants.{Over, Stopped};
 ghost use Rattle.tez_events.specs.declared.CoreEvent.{CoreEvent};
 ghost use Rattle.tez_history.specs.History.{Past};
 ghost use Rattle.tez_history.specs.Runs.{Standing};
+ghost use Rattle.tez_laws.specs.Laws.{AnswersKeep};
 ghost use Rattle.tez_schedule.specs.Planned.{planned_schedule};
 ghost use Rattle.tez_schedule_view.specs.View.{schedule_view};
 ghost use Rattle.tez_schedule_view.specs.Events.{told_bytes, Tells, TellsInTime};
-ghost use Rattle.tez_schedule_view.specs.Statements.{StartIsPlanned, ConfigureTells, StandsTells, QueueSchedules, QueuedSchedules, AgainLeaves, DoneWins, KeptWins, WithdrawalTells, LossWithdraws, LateLossLeaves, FoundLeaves, MissedWithdraws, PlaceLeaves, SendLeaves, PreemptLeaves, FailureLeaves, OutputLossLeaves, ReadyLeaves, CommitLeaves, PublishLeaves, FinishLeaves, PurgeLeaves, CarriedLeaves, IsEnough, SeenIsTold, ConfigIsTold, ConfiguresIsTold, QueuedIsTold, ProgressIsTold, DoneIsTold, ConfigureIsChosen, QueueIsChosen, ProcessingHasNone, EventTellsInTime, ReportTellsInTime, OpenTellsInTime};
+ghost use Rattle.tez_schedule_view.specs.Statements.{StartIsPlanned, ConfigureTells, StandsTells, QueueSchedules, QueuedSchedules, AgainLeaves, DoneWins, KeptWins, WithdrawalTells, LossWithdraws, LateLossLeaves, FoundLeaves, MissedWithdraws, PlaceLeaves, SendLeaves, PreemptLeaves, FailureLeaves, OutputLossLeaves, ReadyLeaves, CommitLeaves, AnswerLeaves, PublishLeaves, FinishLeaves, PurgeLeaves, CarriedLeaves, CommittingLeaves, IsEnough, SeenIsTold, ConfigIsTold, ConfiguresIsTold, QueuedIsTold, ProgressIsTold, DoneIsTold, ConfigureIsChosen, QueueIsChosen, ProcessingHasNone, EventTellsInTime, ReportTellsInTime, OpenTellsInTime, TakenUpTellsInTime};
 
 /// Where a run begins, and where a master opens, the schedule is that of the plan.
 pub fn schedule_is_new()
@@ -67,7 +68,8 @@ pub fn inputs_are_fetched()
     ensures read_error { (g : Dag) (c : ConfValues) (past : Past) (a : AttemptId) → MissedWithdraws g c past a }
 {}
 
-/// Every other event leaves the schedule as it is, and so do the failures that a new master reads:
+/// Every other event leaves the schedule as it is, and so do what the store answers of a sink, and the
+/// failures that a new master reads and the commit that it takes up:
 /// the greatest number to schedule is never below the number that there is now, so it stays where
 /// nothing changes that a manager sees.
 pub fn others_leave_it()
@@ -78,10 +80,12 @@ pub fn others_leave_it()
     ensures output { (g : Dag) (c : ConfValues) (past : Past) (t : TaskId) → OutputLossLeaves g c past t }
     ensures ready { (g : Dag) (c : ConfValues) (past : Past) (v : VertexId) → ReadyLeaves g c past v }
     ensures commit { (g : Dag) (c : ConfValues) (past : Past) → CommitLeaves g c past }
+    ensures asked { (g : Dag) (c : ConfValues) (past : Past) (v : VertexId) → AnswerLeaves g c past v }
     ensures publish { (g : Dag) (c : ConfValues) (past : Past) (v : VertexId) → PublishLeaves g c past v }
     ensures finish { (g : Dag) (c : ConfValues) (past : Past) → FinishLeaves g c past }
     ensures purge { (g : Dag) (c : ConfValues) (past : Past) → PurgeLeaves g c past }
     ensures carried { (g : Dag) (c : ConfValues) (past : Past) (t : TaskId) (n : ℕ) → CarriedLeaves g c past t n }
+    ensures committing { (g : Dag) (c : ConfValues) (past : Past) (n : ℕ) → CommittingLeaves g c past n }
     ensures enough { (g : Dag) (c : ConfValues) (v : ℕ) (past : Past) → IsEnough g c v past }
 {}
 
@@ -105,14 +109,16 @@ pub fn schedule_chooses()
 {}
 
 /// Bytes are told only of attempts that were queued and are not alive any more: so it is where a run
-/// begins, and every event, report, stop and new master keeps it. So nothing is told of an attempt
-/// that is processing before its report.
+/// begins, and every event, report, answer of the store, stop and new master keeps it. So nothing is
+/// told of an attempt that is processing before its report.
 pub fn bytes_are_told_in_time()
     ensures processing { (past : Past) (a : AttemptId) → ProcessingHasNone past a }
     ensures first { TellsInTime [] }
     ensures event { (g : Dag) (c : ConfValues) (past : Past) (e : CoreEvent) → EventTellsInTime g c past e }
     ensures report { (g : Dag) (c : ConfValues) (past : Past) (a : AttemptId) → ReportTellsInTime g c past a }
+    ensures asked { (g : Dag) (c : ConfValues) → AnswersKeep g c TellsInTime }
     ensures stop { (past : Past) (cause : StopCause) → TellsInTime past → TellsInTime (Stopped cause ∷ past) }
     ensures over { (past : Past) → TellsInTime past → TellsInTime (Over ∷ past) }
     ensures opened { (g : Dag) (past : Past) (s : Standing) → OpenTellsInTime g past s }
+    ensures taken_up { (g : Dag) (past : Past) (s : Standing) (n : ℕ) → TakenUpTellsInTime g past s n }
 {}

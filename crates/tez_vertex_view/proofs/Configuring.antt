@@ -17,7 +17,7 @@ use Rattle.tez_vman.specs.Rules.{config as shape}
 use Rattle.tez_events.specs.declared.Entry.{Entry}
 use Rattle.tez_events.specs.declared.Entry.TheVariants.{Opened, Over, Stands, Carried, Configured, Queued, Fetched, ReadError, InputFailed, Made, Failed, NodeLost, Stopped, Purged}
 use Rattle.tez_events.specs.declared.CoreEvent.{CoreEvent}
-use Rattle.tez_events.specs.declared.CoreEvent.TheVariants.{Open, Configure, Queue, Place, Fetch, Send, Preempt, Fail, LoseNode, LoseOutput, Restart, Ready, CommitStart, Publish, Finish, Purge}
+use Rattle.tez_events.specs.declared.CoreEvent.TheVariants.{Open, Configure, Queue, Place, Fetch, Send, Preempt, Fail, LoseNode, LoseOutput, Restart, Ready, CommitStart, Ask, Publish, Finish, Purge}
 use Rattle.tez_task.specs.Table.{new_task}
 use Rattle.tez_vertex.specs.Table.{after_configure, new_tasks}
 use Rattle.tez_history.specs.Shape.{numbers_below}
@@ -25,6 +25,7 @@ use Rattle.tez_history.specs.History.{Past, extend, stage, live, winner, holder,
 use Rattle.tez_history.specs.Derived.{is_configured, is_task, is_processing, configures, tasks, notices, is_on_node, is_on_shelf, places_on}
 use Rattle.tez_history.specs.Steps.{enabled, entries_of, each_after, requeue, withdrawal, killed_by_node, kill_at, withdrawn_if, withdraw_lost, node_kills, node_withdrawals, node_loss_entries, fetch_entries, winner_behind, output_lost_entries, done_entries}
 use Rattle.tez_history.specs.Follows.{IsMade, MayFollow, AllMayFollow}
+use Rattle.tez_laws.specs.Laws.{answered}
 use Rattle.tez_laws.proofs.OneLive.{one_live, running_alive}
 use Rattle.tez_laws.proofs.Tasks.{unscheduled}
 use Rattle.tez_laws.proofs.Ranges.{live_scheduled, scheduled_is_task}
@@ -241,6 +242,7 @@ count_event g c past (LoseOutput t) = count_output (winner t past)
 count_event g c past Restart = (tt, tt)
 count_event g c past (Ready v) = (tt, tt)
 count_event g c past CommitStart = (tt, tt)
+count_event g c past (Ask v) = tt
 count_event g c past (Publish v) = (tt, tt)
 count_event g c past Finish = (tt, tt)
 count_event g c past Purge = (tt, tt)
@@ -250,3 +252,7 @@ failed_event g c past e m f h = failed_all g c past (entries_of g c past e) m (e
 
 pub failed_report : (g : Dag) (c : ConfValues) (past : Past) (a : AttemptId) (made : List (ℕ × ℕ)) → IsMade g c past → FailedAreTasks g past → IsTrue (is_processing (stage a past)) → FailedAreTasks g (extend past (done_entries a made))
 failed_report g c past a made m f h = failed_all g c past (done_entries a made) m (done_may g c past a made h) (tt, count_made a made) f
+
+pub failed_answer : (g : Dag) (past : Past) (v : VertexId) (there : Bool) → FailedAreTasks g past → FailedAreTasks g (answered past v there)
+failed_answer g past v true f = λ u t a. f u t a
+failed_answer g past v false f = λ u t a. f u t a

@@ -6,6 +6,7 @@ use Rattle.std.proofs.lemmas.Bool.Decides.{nat_tests}
 use Rattle.tez_ids.specs.declared.TaskId.{TaskId}
 use Rattle.tez_ids.specs.declared.AttemptId.{AttemptId}
 use Rattle.tez_ids.specs.declared.EdgeId.{EdgeId}
+use Rattle.tez_ids.specs.declared.VertexId.{VertexId}
 use Rattle.tez_ids.specs.Same.{task, same_task, same_attempt}
 use Rattle.tez_lists.specs.Numbers.{numbers_from, In}
 use Rattle.tez_plan.specs.Dag.{Dag, edge}
@@ -15,14 +16,14 @@ use Rattle.tez_events.specs.declared.KillCause.TheVariants.{Node}
 use Rattle.tez_events.specs.declared.Entry.{Entry}
 use Rattle.tez_events.specs.declared.Entry.TheVariants.{Queued, Fetched, ReadError, InputFailed, Killed, NodeLost, Rerun}
 use Rattle.tez_events.specs.declared.CoreEvent.{CoreEvent}
-use Rattle.tez_events.specs.declared.CoreEvent.TheVariants.{Open, Configure, Queue, Place, Fetch, Send, Preempt, Fail, LoseNode, LoseOutput, Restart, Ready, CommitStart, Publish, Finish, Purge}
+use Rattle.tez_events.specs.declared.CoreEvent.TheVariants.{Open, Configure, Queue, Place, Fetch, Send, Preempt, Fail, LoseNode, LoseOutput, Restart, Ready, CommitStart, Ask, Publish, Finish, Purge}
 use Rattle.tez_task.specs.declared.TaskEvent.TheVariants as task_event
 use Rattle.tez_history.specs.Shape.{numbers_below}
 use Rattle.tez_history.specs.History.{Past, extend, stage, holder, freed, winner, failures, config, life, is_committing}
 use Rattle.tez_history.specs.Derived.{tasks, tasks_if, notices, next_attempt, places_on, is_on_node, is_on_shelf}
 use Rattle.tez_history.specs.Steps.{enabled, entries_of, each_after, requeue, withdrawal, killed_by_node, kill_at, withdrawn_if, withdraw_lost, node_kills, node_withdrawals, node_loss_entries, fetch_entries, winner_behind, output_lost_entries}
 use Rattle.tez_history.specs.Follows.{IsMade, IsOpen, AllMayFollow}
-use Rattle.tez_laws.specs.Laws.{FewFailures, place_in}
+use Rattle.tez_laws.specs.Laws.{FewFailures, place_in, answered}
 use Rattle.tez_laws.proofs.Same.{same_attempt-true}
 use Rattle.tez_laws.proofs.Tasks.{winner_task}
 use Rattle.tez_laws.proofs.Places.{held, in_place}
@@ -247,6 +248,13 @@ other_step g c past (LoseOutput t) h = output_step g c past (winner t past)
 other_step g c past Restart h = absurd h
 other_step g c past (Ready v) h = refl
 other_step g c past CommitStart h = refl
+other_step g c past (Ask v) h = refl
 other_step g c past (Publish v) h = refl
 other_step g c past Finish h = refl
 other_step g c past Purge h = refl
+
+-- ---- what the store answers of a sink
+
+pub answer_step : (g : Dag) (c : ConfValues) (past : Past) (v : VertexId) (there : Bool) → vertices_view g c (answered past v there) ≡ vertices_view g c past
+answer_step g c past v true = refl
+answer_step g c past v false = refl

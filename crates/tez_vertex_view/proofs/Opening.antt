@@ -15,19 +15,19 @@ use Rattle.tez_conf.specs.declared.values.ConfValues.{ConfValues}
 use Rattle.tez_vman.specs.declared.seen.Config.{Config}
 use Rattle.tez_vman.specs.Rules.{config as shape}
 use Rattle.tez_events.specs.declared.StopCause.{StopCause}
-use Rattle.tez_events.specs.declared.Entry.TheVariants.{Stands, Carried, Kept, Stopped}
+use Rattle.tez_events.specs.declared.Entry.TheVariants.{Stands, Carried, Kept, Stopped, Committing}
 use Rattle.tez_task.specs.Table.{restored}
 use Rattle.tez_vertex.specs.Vertex.{Vertex}
 use Rattle.tez_vertex.specs.Table.{after_configure, new_tasks, after_restore, restore_by}
 use Rattle.tez_history.specs.Shape.{numbers_below, is_vertex}
-use Rattle.tez_history.specs.History.{Past, extend, live, winner, attempts, failures, epoch, config}
-use Rattle.tez_history.specs.Derived.{is_configured, is_task}
+use Rattle.tez_history.specs.History.{Past, extend, live, winner, attempts, failures, epoch, config, recorded}
+use Rattle.tez_history.specs.Derived.{is_configured, is_task, all_done}
 use Rattle.tez_history.specs.Steps.{each_after}
-use Rattle.tez_history.specs.Runs.{Standing, Run, Found, Unfinished, AllDone, Begun, stands_if, kept_if, carried_entries, standing_entries, opened_at, opened_unless, opened_by, stopped, spent_in}
+use Rattle.tez_history.specs.Runs.{Standing, Run, Found, Unfinished, AllDone, Committed, Begun, stands_if, kept_if, carried_entries, standing_entries, committing_if, opened_at, opened_unless, committed_unless, opened_by, stopped, spent_in}
 use Rattle.tez_laws.specs.Laws.{FewFailures}
 use Rattle.tez_laws.proofs.Same.{same_task-true, same_task-refl}
 use Rattle.tez_laws.proofs.Going.{extend-append}
-use Rattle.tez_vertex_view.specs.View.{task_view, live_view, tasks_in, idle_task, idle, has_moved, vertex_view, vertices_view, restored_vertices, FailedAreTasks, FailedStand}
+use Rattle.tez_vertex_view.specs.View.{task_view, live_view, tasks_in, idle_task, idle, has_moved, vertex_view, vertices_view, restored_vertices, FailedAreTasks, StandsFailed, FailedStand}
 use Rattle.tez_master_model.specs.Vertices.{change, change_by, configure_one, carry_one, failures_in, keep_one}
 use Rattle.tez_master_model.proofs.Numbers.{get_below, get_above}
 use Rattle.tez_vertex_view.proofs.Taking.{set_below, any_same, change_view, same_vertex, stay_vertex, other_index, other_vertex}
@@ -280,6 +280,23 @@ restored_all g c past s some few =
 pub opened_step : (g : Dag) (c : ConfValues) (r : Run) (s : Standing) → 0 < c.max_failed → spent_in c s ≡ None → vertices_view g c (opened_by g c r (Unfinished s)).past ≡ restored_vertices g c (suc (max s.epoch (epoch r.past))) s
 opened_step g c r s some few = ap (λ o. vertices_view g c (opened_unless g r s o).past) few ∙ restored_all g c r.past s some few
 
+-- a commit that is taken up changes nothing of it
+
+committing_leaves : (g : Dag) (c : ConfValues) (past : Past) (n : ℕ) → vertices_view g c (extend past (committing_if g past n)) ≡ vertices_view g c past
+committing_leaves g c past n = by (all_done g past && nat_le (recorded past) n) where
+  by : (b : Bool) → vertices_view g c (extend past (if b then Committing n ∷ [] else [])) ≡ vertices_view g c past
+  by true = refl
+  by false = refl
+
+pub taken_up_step : (g : Dag) (c : ConfValues) (r : Run) (s : Standing) (n : ℕ) → 0 < c.max_failed → spent_in c s ≡ None → vertices_view g c (opened_by g c r (Committed s n)).past ≡ restored_vertices g c (suc (max s.epoch (epoch r.past))) s
+taken_up_step g c r s n some few =
+    let start = opened_at s r.past in
+    let stands = standing_entries g start s in
+    ap (λ o. vertices_view g c (committed_unless g r s n o).past) few
+    ∙ ap (vertices_view g c) (extend-append start stands (committing_if g (extend start stands) n))
+    ∙ committing_leaves g c (extend start stands) n
+    ∙ restored_all g c r.past s some few
+
 -- ---- only tasks of configured vertices have failed
 
 failed_carried : (g : Dag) (xs : List (TaskId × ℕ)) (past : Past) → ((x : TaskId × ℕ) → In x xs → is_task g past x.0 ≡ true) → FailedAreTasks g past → FailedAreTasks g (extend past (carried_entries xs))
@@ -297,19 +314,36 @@ failed_kept g (a ∷ xs) past h = by (λ p k. failed_kept g xs p k) (is_task g p
   by rest true = rest (Kept a ∷ past) (λ u t z. h u t z)
   by rest false = rest past h
 
+failed_standing : (g : Dag) (past : Past) (s : Standing) → StandsFailed g past s → FailedAreTasks g (extend (opened_at s past) (standing_entries g (opened_at s past) s))
+failed_standing g past s k =
+    let start = opened_at s past in
+    let stands = each_after (stands_if g) start s.configured in
+    let carried = carried_entries s.failed in
+    let stood = extend start stands in
+    let gone = extend stood carried in
+    let kept = each_after (kept_if g) gone s.kept in
+    let blank : (t : TaskId) → IsBlank stood t = blank_all g s.configured start (λ t. record { live = refl; winner = refl; queued = refl; failures = refl }) in
+    subst (FailedAreTasks g) (sym (extend-append start stands (carried ++ kept) ∙ extend-append stood carried kept))
+    (failed_kept g s.kept gone (failed_carried g s.failed stood k (λ u t a. (blank t).failures)))
+
+failed_committing : (g : Dag) (past : Past) (n : ℕ) → FailedAreTasks g past → FailedAreTasks g (extend past (committing_if g past n))
+failed_committing g past n h = by (all_done g past && nat_le (recorded past) n) where
+  by : (b : Bool) → FailedAreTasks g (extend past (if b then Committing n ∷ [] else []))
+  by true = λ u t a. h u t a
+  by false = h
+
 pub failed_start : (g : Dag) (c : ConfValues) (r : Run) (found : Found) → FailedStand g r.past found → FailedAreTasks g r.past → FailedAreTasks g (opened_by g c r found).past
 failed_start g c r Begun k h = h
 failed_start g c r AllDone k h = λ u t a. refl
 failed_start g c r (Unfinished s) k h = by (spent_in c s) where
   by : (o : Option (TaskId × ℕ)) → FailedAreTasks g (opened_unless g r s o).past
   by (Some x) = h
+  by None = failed_standing g r.past s k
+failed_start g c r (Committed s n) k h = by (spent_in c s) where
+  by : (o : Option (TaskId × ℕ)) → FailedAreTasks g (committed_unless g r s n o).past
+  by (Some x) = h
   by None =
       let start = opened_at s r.past in
-      let stands = each_after (stands_if g) start s.configured in
-      let carried = carried_entries s.failed in
-      let stood = extend start stands in
-      let gone = extend stood carried in
-      let kept = each_after (kept_if g) gone s.kept in
-      let blank : (t : TaskId) → IsBlank stood t = blank_all g s.configured start (λ t. record { live = refl; winner = refl; queued = refl; failures = refl }) in
-      subst (FailedAreTasks g) (sym (extend-append start stands (carried ++ kept) ∙ extend-append stood carried kept))
-      (failed_kept g s.kept gone (failed_carried g s.failed stood k (λ u t a. (blank t).failures)))
+      let stands = standing_entries g start s in
+      subst (FailedAreTasks g) (sym (extend-append start stands (committing_if g (extend start stands) n)))
+      (failed_committing g (extend start stands) n (failed_standing g r.past s k))

@@ -1,7 +1,7 @@
 -- Events that concern no task.
 use Rattle.std.specs.Prelude.{⊤}
 use Rattle.tez_events.specs.declared.CoreEvent.{CoreEvent}
-use Rattle.tez_events.specs.declared.CoreEvent.TheVariants.{Open, Configure, Queue, Place, Fetch, Send, Preempt, Fail, LoseNode, LoseOutput, Restart, Ready, CommitStart, Publish, Finish, Purge}
+use Rattle.tez_events.specs.declared.CoreEvent.TheVariants.{Open, Configure, Queue, Place, Fetch, Send, Preempt, Fail, LoseNode, LoseOutput, Restart, Ready, CommitStart, Ask, Publish, Finish, Purge}
 
 abbrev pub IsElsewhere : CoreEvent → Type 0
 IsElsewhere Open = ⊤
@@ -17,6 +17,7 @@ IsElsewhere (LoseOutput t) = ⊤
 IsElsewhere Restart = ⊥
 IsElsewhere (Ready v) = ⊤
 IsElsewhere CommitStart = ⊤
+IsElsewhere (Ask v) = ⊤
 IsElsewhere (Publish v) = ⊤
 IsElsewhere Finish = ⊤
 IsElsewhere Purge = ⊤

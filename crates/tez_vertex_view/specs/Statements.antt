@@ -1,5 +1,5 @@
 -- What the laws say of the vertices after a history.
-use Rattle.std.specs.Prelude.{◌≡◌, ◌<◌, ◌&&◌, nat_le, length, slice_get, map, max, ℕ, List, IsTrue, true, false, suc, Some, None}
+use Rattle.std.specs.Prelude.{◌≡◌, ◌<◌, ◌&&◌, nat_le, length, slice_get, map, max, ℕ, Bool, List, IsTrue, true, false, suc, Some, None}
 use Rattle.std.specs.List.{list_all, filter_map}
 use Rattle.tez_ids.specs.declared.TaskId.{TaskId}
 use Rattle.tez_ids.specs.declared.AttemptId.{AttemptId}
@@ -19,14 +19,14 @@ use Rattle.tez_history.specs.Runs.{Run, Found, Standing, opened_by, stopped, spe
 use Rattle.tez_history.specs.Derived.{is_task, tasks, live_attempts, is_processing, is_configured, is_vertex_done, task_count, next_attempt, is_on_shelf, configures}
 use Rattle.tez_history.specs.Steps.{enabled, entries_of, done_entries, winner_behind}
 use Rattle.tez_history.specs.Follows.{IsMade, IsAlive, IsPlaced}
-use Rattle.tez_laws.specs.Laws.{FewFailures}
+use Rattle.tez_laws.specs.Laws.{FewFailures, answered}
 use Rattle.tez_vertex_view.specs.View.{task_view, vertex_view, vertices_view, restored_vertices, idle, FailedAreTasks, FailedStand, kill_all, lose_all, held_there, lost_there, come, live_in, winners_in}
 use Rattle.tez_master_model.specs.Vertices.{new_vertices, change, take_in, AreRestorable, configure_one, carry_one, keep_one}
 use Rattle.tez_vertex_view.specs.Elsewhere.{IsElsewhere}
 use Rattle.tez_events.specs.declared.CoreEvent.TheVariants as core_event
 use Rattle.tez_task.specs.declared.TaskEvent.TheVariants as task_event
 use Rattle.tez_task.specs.declared.TaskTook.TheVariants as task_took_is
-use Rattle.tez_history.specs.Runs.{AllDone, Unfinished}
+use Rattle.tez_history.specs.Runs.{AllDone, Unfinished, Committed}
 
 -- ---- task is queued
 
@@ -104,6 +104,10 @@ LateLossLeaves g c past slot =
 abbrev pub LeavesVertices : Dag → ConfValues → Past → CoreEvent → Type 0
 LeavesVertices g c past e = IsElsewhere e → vertices_view g c (extend past (entries_of g c past e)) ≡ vertices_view g c past
 
+-- and so does what the store answers of a sink
+abbrev pub AnswerLeaves : Dag → ConfValues → Past → VertexId → Type 0
+AnswerLeaves g c past v = (there : Bool) → vertices_view g c (answered past v there) ≡ vertices_view g c past
+
 -- ---- vertex is configured
 
 -- a vertex that is configured gets the tasks of its configuration
@@ -148,6 +152,12 @@ abbrev pub StartRestores : Dag → ConfValues → Run → Standing → Type 0
 StartRestores g c r s =
     0 < c.max_failed → spent_in c s ≡ None
     → vertices_view g c (opened_by g c r (Unfinished s)).past ≡ restored_vertices g c (suc (max s.epoch (epoch r.past))) s
+
+-- so they are where it takes up a commit, whatever of it was recorded
+abbrev pub TakenUpRestores : Dag → ConfValues → Run → Standing → ℕ → Type 0
+TakenUpRestores g c r s n =
+    0 < c.max_failed → spent_in c s ≡ None
+    → vertices_view g c (opened_by g c r (Committed s n)).past ≡ restored_vertices g c (suc (max s.epoch (epoch r.past))) s
 
 -- ---- tasks may be restored
 

@@ -26,7 +26,7 @@ use Rattle.tez_history.specs.Shape.{numbers_below, vertices}
 use Rattle.tez_history.specs.History.{Past, Stage, Unknown, InQueue, Waits, Runs, Ended, stage, live, winner, attempts, failures, epoch, config, holder, is_up, extend}
 use Rattle.tez_history.specs.Derived.{is_configured, is_task, tasks, places_on, is_on_node}
 use Rattle.tez_history.specs.Steps.{each_after}
-use Rattle.tez_history.specs.Runs.{Standing, Found, Unfinished, AllDone, Begun, stands_if, opened_at}
+use Rattle.tez_history.specs.Runs.{Standing, Found, Unfinished, AllDone, Committed, Begun, stands_if, opened_at}
 use Rattle.tez_master_model.specs.Vertices.{new_vertices, take_in, configure_one, carry_one, keep_one}
 
 -- how far an attempt has come, by where it stands; one that is not live has ended
@@ -122,9 +122,13 @@ abbrev pub FailedAreTasks : Dag → Past → Type 0
 FailedAreTasks g past = is_up past ≡ true → (t : TaskId) → is_task g past t ≡ false → failures t past ≡ 0
 
 -- the failures that a new master finds are at tasks of what stands configured
-abbrev pub FailedStand : Dag → Past → Found → Type 0
-FailedStand g past (Unfinished s) =
+abbrev pub StandsFailed : Dag → Past → Standing → Type 0
+StandsFailed g past s =
     let start = opened_at s past in
     (x : TaskId × ℕ) → In x s.failed → is_task g (extend start (each_after (stands_if g) start s.configured)) x.0 ≡ true
+
+abbrev pub FailedStand : Dag → Past → Found → Type 0
+FailedStand g past (Unfinished s) = StandsFailed g past s
 FailedStand g past AllDone = ⊤
+FailedStand g past (Committed s n) = StandsFailed g past s
 FailedStand g past Begun = ⊤

@@ -19,9 +19,10 @@ ghost use Rattle.tez_task.specs.Table.{live_of, next_of};
 ghost use Rattle.tez_history.specs.History.{Past, live, epoch};
 ghost use Rattle.tez_history.specs.Runs.{Run, Found, Standing};
 ghost use Rattle.tez_history.specs.Derived.{next_attempt};
+ghost use Rattle.tez_laws.specs.Laws.{AnswersKeep};
 ghost use Rattle.tez_vertex_view.specs.View.{task_view, vertices_view, FailedAreTasks};
 ghost use Rattle.tez_master_model.specs.Vertices.{new_vertices, AreRestorable};
-ghost use Rattle.tez_vertex_view.specs.Statements.{QueueIsTaken, PlaceIsTaken, SendIsTaken, ReportIsTaken, FailureIsTaken, PreemptIsTaken, FoundLeaves, MissedWithdraws, LossKillsAndWithdraws, LateLossLeaves, LeavesVertices, VertexIsConfigured, EventKeepsFailed, ReportKeepsFailed, StopKeepsFailed, StartKeepsFailed, StopIdles, OverIsNew, StartRestores, ConfiguredMay, CarriedMay, KeptMay, AnswersQueue, AnswersPlace, AnswersSend, AnswersReport, AnswersLastFailure, AnswersFailure, AnswersKill, AnswersLoss, VertexIsThere, TaskIsThere, CountIsTold, StateIsTold, LiveAreTold, WinnersAreTold, DoneIsTold, NoneFailed, TaskIsInVertex, LiveIsOfTask, WinnerIsOfTask};
+ghost use Rattle.tez_vertex_view.specs.Statements.{QueueIsTaken, PlaceIsTaken, SendIsTaken, ReportIsTaken, FailureIsTaken, PreemptIsTaken, FoundLeaves, MissedWithdraws, LossKillsAndWithdraws, LateLossLeaves, LeavesVertices, AnswerLeaves, VertexIsConfigured, EventKeepsFailed, ReportKeepsFailed, StopKeepsFailed, StartKeepsFailed, StopIdles, OverIsNew, StartRestores, TakenUpRestores, ConfiguredMay, CarriedMay, KeptMay, AnswersQueue, AnswersPlace, AnswersSend, AnswersReport, AnswersLastFailure, AnswersFailure, AnswersKill, AnswersLoss, VertexIsThere, TaskIsThere, CountIsTold, StateIsTold, LiveAreTold, WinnersAreTold, DoneIsTold, NoneFailed, TaskIsInVertex, LiveIsOfTask, WinnerIsOfTask};
 
 /// A task gets its first attempt.
 pub fn task_is_queued()
@@ -57,9 +58,11 @@ pub fn node_is_lost()
     ensures commit { (g : Dag) (c : ConfValues) (past : Past) (slot : ℕ) → LateLossLeaves g c past slot }
 {}
 
-/// Every other event but a configuration leaves the vertices as they are.
+/// Every other event but a configuration leaves the vertices as they are, and so does what the store
+/// answers of a sink.
 pub fn vertices_are_left()
-    ensures { (g : Dag) (c : ConfValues) (past : Past) (e : CoreEvent) → LeavesVertices g c past e }
+    ensures event { (g : Dag) (c : ConfValues) (past : Past) (e : CoreEvent) → LeavesVertices g c past e }
+    ensures asked { (g : Dag) (c : ConfValues) (past : Past) (v : VertexId) → AnswerLeaves g c past v }
 {}
 
 /// A vertex is configured: it gets the tasks that its manager says, which have no attempt yet.
@@ -68,11 +71,13 @@ pub fn vertex_is_configured()
 {}
 
 /// Only tasks of configured vertices have failed: so it is before the first entry, each event,
-/// report and stop keeps it, and so does a new master whose failures are at tasks of what stands.
+/// report, answer of the store and stop keeps it, and so does a new master whose failures are at tasks
+/// of what stands.
 pub fn failed_are_tasks()
     ensures begins { (g : Dag) → FailedAreTasks g [] }
     ensures event { (g : Dag) (c : ConfValues) (past : Past) (e : CoreEvent) → EventKeepsFailed g c past e }
     ensures report { (g : Dag) (c : ConfValues) (past : Past) (a : AttemptId) → ReportKeepsFailed g c past a }
+    ensures asked { (g : Dag) (c : ConfValues) → AnswersKeep g c (FailedAreTasks g) }
     ensures stop { (g : Dag) (c : ConfValues) (r : Run) (cause : StopCause) → StopKeepsFailed g c r cause }
     ensures start { (g : Dag) (c : ConfValues) (r : Run) (found : Found) → StartKeepsFailed g c r found }
 {}
@@ -82,12 +87,13 @@ pub fn failed_are_tasks()
 /// or a winner. A new master that goes on begins with vertices that are not configured, whatever a
 /// stop left: it configures what stands, then sets the failures that it finds, and then the winners
 /// that it takes over. What makes no sense in them changes nothing. Its epoch is above the one that it
-/// finds, and above each before.
+/// finds, and above each before. A commit that it takes up changes nothing of that.
 pub fn masters_change()
     ensures begins { (g : Dag) (c : ConfValues) → vertices_view g c [] ≡ new_vertices g c 0 }
     ensures stop { (g : Dag) (c : ConfValues) (r : Run) (cause : StopCause) → StopIdles g c r cause }
     ensures over { (g : Dag) (c : ConfValues) (r : Run) → OverIsNew g c r }
     ensures start { (g : Dag) (c : ConfValues) (r : Run) (s : Standing) → StartRestores g c r s }
+    ensures taken_up { (g : Dag) (c : ConfValues) (r : Run) (s : Standing) (n : ℕ) → TakenUpRestores g c r s n }
 {}
 
 /// Each task may be restored when a new master comes to it: none had an attempt yet, and each may

@@ -8,6 +8,7 @@ use Rattle.tez_ids.specs.declared.AttemptId.{AttemptId}
 use Rattle.tez_ids.specs.declared.EdgeId.{EdgeId}
 use Rattle.tez_ids.specs.declared.ContainerId.{ContainerId}
 use Rattle.tez_ids.specs.declared.TaskId.{TaskId}
+use Rattle.tez_ids.specs.declared.VertexId.{VertexId}
 use Rattle.tez_ids.specs.Same.{same_attempt}
 use Rattle.tez_plan.specs.Dag.{Dag, tasks_of as planned}
 use Rattle.tez_conf.specs.declared.values.ConfValues.{ConfValues}
@@ -15,13 +16,13 @@ use Rattle.tez_vman.specs.declared.seen.Config.{Config}
 use Rattle.tez_vman.specs.Rules.{config as shape}
 use Rattle.tez_events.specs.declared.KillCause.{KillCause}
 use Rattle.tez_events.specs.declared.Entry.{Entry}
-use Rattle.tez_events.specs.declared.Entry.TheVariants.{Opened, Over, Stands, Carried, Kept, Configured, Queued, Placed, Fetched, ReadError, InputFailed, Ordered, Succeeded, Made, Failed, Killed, NodeLost, OutputLost, Rerun, Stopped, Ready, Published, CommitStarted, Finished, Purged}
+use Rattle.tez_events.specs.declared.Entry.TheVariants.{Opened, Over, Stands, Carried, Kept, Configured, Queued, Placed, Fetched, ReadError, InputFailed, Ordered, Succeeded, Made, Failed, Killed, NodeLost, OutputLost, Rerun, Stopped, Committing, Ready, Asked, Settled, Published, CommitStarted, Finished, Purged}
 use Rattle.tez_history.specs.Shape.{Edge, edges_to}
 use Rattle.tez_history.specs.History.{Past, Stage, Unknown, InQueue, Waits, Runs, Ended, stage, sent, holder, freed, config, is_fetched}
 use Rattle.tez_history.specs.Derived.{task_count, next_attempt, is_configured}
 use Rattle.tez_history.specs.Rules.{is_at_start}
 use Rattle.tez_history.specs.Follows.{IsMade, IsPlaced, MayFollow}
-use Rattle.tez_laws.specs.Laws.{place_in}
+use Rattle.tez_laws.specs.Laws.{place_in, answered}
 use Rattle.tez_laws.proofs.Same.{same_attempt-true, same_attempt-refl}
 use Rattle.tez_laws.proofs.OneLive.{placed_alive}
 use Rattle.tez_laws.proofs.Places.{held, stands, fresh, placed_known, in_place, none_held_at_start, queued_fetched}
@@ -143,11 +144,19 @@ leave_seat job c past (Made x y z) m f h p = plain_seat job past (Made x y z) p 
 leave_seat job c past (NodeLost x y) m f h p = plain_seat job past (NodeLost x y) p refl (λ a. refl) (λ a. refl) (λ a n. refl)
 leave_seat job c past (OutputLost x) m f h p = plain_seat job past (OutputLost x) p refl (λ a. refl) (λ a. refl) (λ a n. refl)
 leave_seat job c past (Rerun x) m f h p = plain_seat job past (Rerun x) p refl (λ a. refl) (λ a. refl) (λ a n. refl)
+leave_seat job c past (Committing x) m f h p = plain_seat job past (Committing x) p refl (λ a. refl) (λ a. refl) (λ a n. refl)
 leave_seat job c past (Ready x) m f h p = plain_seat job past (Ready x) p refl (λ a. refl) (λ a. refl) (λ a n. refl)
+leave_seat job c past (Asked x) m f h p = plain_seat job past (Asked x) p refl (λ a. refl) (λ a. refl) (λ a n. refl)
+leave_seat job c past (Settled x) m f h p = plain_seat job past (Settled x) p refl (λ a. refl) (λ a. refl) (λ a n. refl)
 leave_seat job c past (Published x) m f h p = plain_seat job past (Published x) p refl (λ a. refl) (λ a. refl) (λ a n. refl)
 leave_seat job c past CommitStarted m f h p = plain_seat job past (CommitStarted) p refl (λ a. refl) (λ a. refl) (λ a n. refl)
 leave_seat job c past Finished m f h p = plain_seat job past (Finished) p refl (λ a. refl) (λ a. refl) (λ a n. refl)
 leave_seat job c past Purged m f h p = plain_seat job past (Purged) p refl (λ a. refl) (λ a. refl) (λ a n. refl)
+
+-- an answer of the store concerns no seat
+pub answer_seat : (job : Job) (past : Past) (v : VertexId) (there : Bool) (p : ℕ) → seat_view job (answered past v there) p ≡ seat_view job past p
+answer_seat job past v true p = plain_seat job past (Settled v) p refl (λ a. refl) (λ a. refl) (λ a n. refl)
+answer_seat job past v false p = plain_seat job past (Asked v) p refl (λ a. refl) (λ a. refl) (λ a n. refl)
 
 -- ---- who holds another place is another attempt
 

@@ -5,6 +5,7 @@ use Rattle.std.proofs.Common.{ap, sym, ◌∙◌, subst, zero-add}
 use Rattle.std.proofs.lemmas.Bool.{eqb-true}
 use Rattle.tez_ids.specs.declared.AttemptId.{AttemptId}
 use Rattle.tez_ids.specs.declared.EdgeId.{EdgeId}
+use Rattle.tez_ids.specs.declared.VertexId.{VertexId}
 use Rattle.tez_ids.specs.declared.ContainerId.{ContainerId}
 use Rattle.tez_lists.specs.Numbers.{numbers_from}
 use Rattle.tez_lists.proofs.Tables.{map_below, get_each, set_each}
@@ -15,13 +16,13 @@ use Rattle.tez_events.specs.declared.Entry.{Entry}
 use Rattle.tez_events.specs.declared.Entry.TheVariants.{Placed, Fetched, ReadError, Ordered, Succeeded, Made, Failed, Killed, NodeLost, Stopped}
 use Rattle.tez_events.specs.declared.StopCause.{StopCause}
 use Rattle.tez_events.specs.declared.CoreEvent.{CoreEvent}
-use Rattle.tez_events.specs.declared.CoreEvent.TheVariants.{Open, Configure, Queue, Place, Fetch, Send, Preempt, Fail, LoseNode, LoseOutput, Restart, Ready, CommitStart, Publish, Finish, Purge}
+use Rattle.tez_events.specs.declared.CoreEvent.TheVariants.{Open, Configure, Queue, Place, Fetch, Send, Preempt, Fail, LoseNode, LoseOutput, Restart, Ready, CommitStart, Ask, Publish, Finish, Purge}
 use Rattle.tez_history.specs.Shape.{edges_to, places}
 use Rattle.tez_history.specs.History.{Past, extend, Waits, Runs, stage, holder, container_of, life, winner, failures, is_up, is_committing}
 use Rattle.tez_history.specs.Derived.{is_processing, places_on, is_on_shelf}
 use Rattle.tez_history.specs.Steps.{enabled, entries_of, each_after, requeue, withdrawal, killed_by_node, kill_at, fetch_entries, winner_behind, output_lost_entries, node_kills, node_withdrawals, node_loss_entries, done_entries}
 use Rattle.tez_history.specs.Follows.{IsMade, AllMayFollow}
-use Rattle.tez_laws.specs.Laws.{place_in}
+use Rattle.tez_laws.specs.Laws.{place_in, answered}
 use Rattle.tez_laws.proofs.Places.{held, stands, in_place}
 use Rattle.tez_laws.proofs.StepLaw.{both, event_may, done_may, kill_may, made-extend}
 use Rattle.tez_laws.proofs.Going.{extend-append}
@@ -34,7 +35,7 @@ use Rattle.tez_inflight.specs.Seats.{Seat, Vacant, Gathers, Out, seat_at, gather
 use Rattle.tez_work_view.specs.Holdings.{order_view, seat_view, seats_view}
 use Rattle.tez_work_view.specs.Events.{KeepsSeats, vacate}
 use Rattle.tez_work_view.proofs.EntryKinds.{AllOf, HasWithdrawals, all_withdrawal, all_withdrawals, all_made}
-use Rattle.tez_work_view.proofs.SeatSteps.{Leaves, leave_seat, seat_placed, seat_fetched, seat_ordered, seat_succeeded, seat_failed, seat_killed, seat_nobody}
+use Rattle.tez_work_view.proofs.SeatSteps.{Leaves, leave_seat, answer_seat, seat_placed, seat_fetched, seat_ordered, seat_succeeded, seat_failed, seat_killed, seat_nobody}
 
 -- ---- the seats by place
 
@@ -216,6 +217,7 @@ leave_event g c past (LoseOutput t) h = leave_output (winner t past)
 leave_event g c past Restart h = absurd h
 leave_event g c past (Ready v) h = (tt, tt)
 leave_event g c past CommitStart h = (tt, tt)
+leave_event g c past (Ask v) h = tt
 leave_event g c past (Publish v) h = (tt, tt)
 leave_event g c past Finish h = (tt, tt)
 leave_event g c past Purge h = (tt, tt)
@@ -224,3 +226,6 @@ pub seats_left : (job : Job) (c : ConfValues) (past : Past) (e : CoreEvent) → 
     → seats_view job c (extend past (entries_of job.plan c past e)) ≡ seats_view job c past
 seats_left job c past e k m on =
     same_seats job c past (extend past (entries_of job.plan c past e)) (leave_all job c past (entries_of job.plan c past e) m (event_may job.plan c past e m on) (leave_event job.plan c past e k))
+
+pub seats_answered : (job : Job) (c : ConfValues) (past : Past) (v : VertexId) (there : Bool) → seats_view job c (answered past v there) ≡ seats_view job c past
+seats_answered job c past v there = same_seats job c past (answered past v there) (answer_seat job past v there)

@@ -6,19 +6,21 @@ use Rattle.std.proofs.lemmas.Bool.{eqb-true, eq-eqb}
 use Rattle.std.proofs.lemmas.Bool.Decides.{nat_tests}
 use Rattle.tez_ids.specs.declared.AttemptId.{AttemptId}
 use Rattle.tez_ids.specs.declared.TaskId.{TaskId}
+use Rattle.tez_ids.specs.declared.VertexId.{VertexId}
 use Rattle.tez_ids.specs.Same.{same_attempt}
 use Rattle.tez_plan.specs.Dag.{Dag, edge}
 use Rattle.tez_conf.specs.declared.values.ConfValues.{ConfValues}
 use Rattle.tez_events.specs.declared.Entry.{Entry}
-use Rattle.tez_events.specs.declared.Entry.TheVariants.{Opened, Over, Stands, Carried, Kept, Configured, Queued, Placed, Fetched, ReadError, InputFailed, Ordered, Succeeded, Made, Failed, Killed, NodeLost, OutputLost, Rerun, Stopped, Ready as Readied, Published, CommitStarted, Finished, Purged}
+use Rattle.tez_events.specs.declared.Entry.TheVariants.{Opened, Over, Stands, Carried, Kept, Configured, Queued, Placed, Fetched, ReadError, InputFailed, Ordered, Succeeded, Made, Failed, Killed, NodeLost, OutputLost, Rerun, Stopped, Committing, Ready as Readied, Asked, Settled, Published, CommitStarted, Finished, Purged}
 use Rattle.tez_events.specs.declared.StopCause.{StopCause}
 use Rattle.tez_events.specs.declared.CoreEvent.{CoreEvent}
-use Rattle.tez_events.specs.declared.CoreEvent.TheVariants.{Open, Configure, Queue, Place, Fetch, Send, Preempt, Fail, LoseNode, LoseOutput, Restart, Ready, CommitStart, Publish, Finish, Purge}
+use Rattle.tez_events.specs.declared.CoreEvent.TheVariants.{Open, Configure, Queue, Place, Fetch, Send, Preempt, Fail, LoseNode, LoseOutput, Restart, Ready, CommitStart, Ask, Publish, Finish, Purge}
 use Rattle.tez_history.specs.Shape.{slot_of, has_edge_out}
 use Rattle.tez_history.specs.History.{Past, extend, Stage, Runs, Location, Nowhere, On, InQuestion, stage, location, put_by, lost_on, life, winner, failures, is_committing}
 use Rattle.tez_history.specs.Derived.{is_processing, is_on_shelf, is_stored, is_on_slot}
 use Rattle.tez_history.specs.Steps.{enabled, entries_of, requeue, withdrawal, fetch_entries, winner_behind, output_lost_entries, node_kills, node_withdrawals, node_loss_entries, done_entries}
 use Rattle.tez_history.specs.Follows.{IsMade, MayFollow, AllMayFollow}
+use Rattle.tez_laws.specs.Laws.{answered}
 use Rattle.tez_laws.proofs.Same.{same_attempt-true}
 use Rattle.tez_laws.proofs.StepLaw.{event_may, done_may}
 use Rattle.tez_orders.specs.Outcomes.{pieces_of}
@@ -82,7 +84,10 @@ leave_one job c past (Failed x) m f h b = shelf_same job past (Failed x ∷ past
 leave_one job c past (Killed x y) m f h b = shelf_same job past (Killed x y ∷ past) b (location c b past) refl (λ s. refl)
 leave_one job c past (Rerun x) m f h b = shelf_same job past (Rerun x ∷ past) b (location c b past) refl (λ s. refl)
 leave_one job c past (Stopped x) m f h b = shelf_same job past (Stopped x ∷ past) b (location c b past) refl (λ s. refl)
+leave_one job c past (Committing x) m f h b = shelf_same job past (Committing x ∷ past) b (location c b past) refl (λ s. refl)
 leave_one job c past (Readied x) m f h b = shelf_same job past (Readied x ∷ past) b (location c b past) refl (λ s. refl)
+leave_one job c past (Asked x) m f h b = shelf_same job past (Asked x ∷ past) b (location c b past) refl (λ s. refl)
+leave_one job c past (Settled x) m f h b = shelf_same job past (Settled x ∷ past) b (location c b past) refl (λ s. refl)
 leave_one job c past (Published x) m f h b = shelf_same job past (Published x ∷ past) b (location c b past) refl (λ s. refl)
 leave_one job c past CommitStarted m f h b = shelf_same job past (CommitStarted ∷ past) b (location c b past) refl (λ s. refl)
 leave_one job c past Finished m f h b = shelf_same job past (Finished ∷ past) b (location c b past) refl (λ s. refl)
@@ -198,6 +203,7 @@ leave_event g c past (LoseOutput t) h = absurd h
 leave_event g c past Restart h = (tt, tt)
 leave_event g c past (Ready v) h = (tt, tt)
 leave_event g c past CommitStart h = (tt, tt)
+leave_event g c past (Ask v) h = tt
 leave_event g c past (Publish v) h = (tt, tt)
 leave_event g c past Finish h = (tt, tt)
 leave_event g c past Purge h = (tt, tt)
@@ -205,6 +211,11 @@ leave_event g c past Purge h = (tt, tt)
 pub shelf_left : (job : Job) (c : ConfValues) (past : Past) (e : CoreEvent) (b : AttemptId) → KeepsShelves e → IsMade job.plan c past → enabled job.plan c past e ≡ true
     → shelf_view job c (extend past (entries_of job.plan c past e)) b ≡ shelf_view job c past b
 shelf_left job c past e b k m on = leave_all job c past (entries_of job.plan c past e) m (event_may job.plan c past e m on) (leave_event job.plan c past e k) b
+
+pub shelf_answered : (job : Job) (c : ConfValues) (past : Past) (v : VertexId) (there : Bool) (b : AttemptId) → shelf_view job c (answered past v there) b ≡ shelf_view job c past b
+unfolding made copied
+shelf_answered job c past v true b = shelf_same job past (Settled v ∷ past) b (location c b past) refl (λ s. refl)
+shelf_answered job c past v false b = shelf_same job past (Asked v ∷ past) b (location c b past) refl (λ s. refl)
 
 -- ---- a stop leaves them too, and at the beginning there is nothing
 

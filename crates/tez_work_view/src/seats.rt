@@ -3,6 +3,7 @@ ghost use Rattle.std.specs.Prelude.{◌≡◌, ℕ, true, false, ◌∷◌, List
 ghost use Rattle.std.specs.List.{fold};
 ghost use Rattle.tez_ids.specs.declared.AttemptId.{AttemptId};
 ghost use Rattle.tez_ids.specs.declared.EdgeId.{EdgeId};
+ghost use Rattle.tez_ids.specs.declared.VertexId.{VertexId};
 ghost use Rattle.tez_conf.specs.declared.values.ConfValues.{ConfValues};
 ghost use Rattle.tez_events.specs.declared.StopCause.{StopCause};
 ghost use Rattle.tez_events.specs.declared.Entry.TheVariants.{Stopped};
@@ -18,7 +19,7 @@ ghost use Rattle.tez_meaning.specs.Jobs.{Job};
 ghost use Rattle.tez_contents.specs.Contents.{made, piece_over};
 ghost use Rattle.tez_inflight.specs.Seats.{Vacant, Gathers, Out, seat_at, gathering};
 ghost use Rattle.tez_work_view.specs.Holdings.{order_view, seats_view};
-ghost use Rattle.tez_work_view.specs.Events.{KeepsSeats, vacate};
+ghost use Rattle.tez_work_view.specs.Events.{KeepsSeats, AnswerLeavesSeats, vacate};
 
 /// A queued attempt that takes a place has gathered nothing.
 pub fn attempt_is_seated()
@@ -50,9 +51,10 @@ pub fn node_leaves_seats()
     ensures { (job : Job) (c : ConfValues) (past : Past) (slot : ℕ) → IsMade job.plan c past → IsWholeAtCommit job.plan past → enabled job.plan c past (CoreEvent.LoseNode slot) ≡ true → seats_view job c (extend past (entries_of job.plan c past (CoreEvent.LoseNode slot))) ≡ fold vacate (seats_view job c past) (places_on c slot) }
 {}
 
-/// Every other event leaves the seats as they are.
+/// Every other event leaves the seats as they are, and so does what the store answers of a sink.
 pub fn seats_are_left()
-    ensures { (job : Job) (c : ConfValues) (past : Past) (e : CoreEvent) → KeepsSeats e → IsMade job.plan c past → enabled job.plan c past e ≡ true → seats_view job c (extend past (entries_of job.plan c past e)) ≡ seats_view job c past }
+    ensures asked { (job : Job) (c : ConfValues) (past : Past) (v : VertexId) → AnswerLeavesSeats job c past v }
+    ensures event { (job : Job) (c : ConfValues) (past : Past) (e : CoreEvent) → KeepsSeats e → IsMade job.plan c past → enabled job.plan c past e ≡ true → seats_view job c (extend past (entries_of job.plan c past e)) ≡ seats_view job c past }
 {}
 
 /// Before the first entry the seats are vacant, and so they are after a stop.

@@ -3,6 +3,7 @@ ghost use Rattle.std.specs.Prelude.{◌≡◌, ◌==◌, ◌&&◌, ℕ, not, if�
 ghost use Rattle.std.specs.Option.{option_map_or};
 ghost use Rattle.tez_ids.specs.declared.AttemptId.{AttemptId};
 ghost use Rattle.tez_ids.specs.declared.TaskId.{TaskId};
+ghost use Rattle.tez_ids.specs.declared.VertexId.{VertexId};
 ghost use Rattle.tez_ids.specs.Same.{same_attempt};
 ghost use Rattle.tez_conf.specs.declared.values.ConfValues.{ConfValues};
 ghost use Rattle.tez_events.specs.declared.StopCause.{StopCause};
@@ -19,7 +20,7 @@ ghost use Rattle.tez_meaning.specs.Jobs.{Job};
 ghost use Rattle.tez_contents.specs.Contents.{made};
 ghost use Rattle.tez_assembly.specs.Order.{outs_for};
 ghost use Rattle.tez_work_view.specs.Holdings.{node, shelf_view};
-ghost use Rattle.tez_work_view.specs.Events.{KeepsShelves};
+ghost use Rattle.tez_work_view.specs.Events.{KeepsShelves, AnswerLeavesShelves};
 
 /// A report puts the pieces of what the attempt made on a shelf of the present node at its place.
 pub fn pieces_are_shelved()
@@ -36,9 +37,10 @@ pub fn output_leaves_shelf()
     ensures { (job : Job) (c : ConfValues) (past : Past) (t : TaskId) (w b : AttemptId) → winner t past ≡ Some w → shelf_view job c (extend past (entries_of job.plan c past (CoreEvent.LoseOutput t))) b ≡ (if same_attempt w b then None else shelf_view job c past b) }
 {}
 
-/// Every other event leaves the shelves as they are.
+/// Every other event leaves the shelves as they are, and so does what the store answers of a sink.
 pub fn shelves_are_left()
-    ensures { (job : Job) (c : ConfValues) (past : Past) (e : CoreEvent) (b : AttemptId) → KeepsShelves e → IsMade job.plan c past → enabled job.plan c past e ≡ true → shelf_view job c (extend past (entries_of job.plan c past e)) b ≡ shelf_view job c past b }
+    ensures asked { (job : Job) (c : ConfValues) (past : Past) (v : VertexId) → AnswerLeavesShelves job c past v }
+    ensures event { (job : Job) (c : ConfValues) (past : Past) (e : CoreEvent) (b : AttemptId) → KeepsShelves e → IsMade job.plan c past → enabled job.plan c past e ≡ true → shelf_view job c (extend past (entries_of job.plan c past e)) b ≡ shelf_view job c past b }
 {}
 
 /// Before the first entry nothing is on a shelf, and a stop leaves the shelves as they are.

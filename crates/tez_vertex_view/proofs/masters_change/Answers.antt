@@ -1,5 +1,5 @@
 use Rattle.std.specs.Prelude.{refl}
-use Rattle.tez_vertex_view.proofs.Opening.{stopped_step, opened_step}
+use Rattle.tez_vertex_view.proofs.Opening.{stopped_step, opened_step, taken_up_step}
 use Rattle.tez_vertex_view.proofs.masters_change.Goals as goal
 
 pub returns : goal.returns
@@ -8,4 +8,5 @@ returns c = record {
   stop = stopped_step;
   over = λ g c r. refl;
   start = opened_step;
+  taken_up = taken_up_step;
 }
