@@ -1,11 +1,12 @@
 -- Which events a master may take, and why it takes another one not.
 --     enabled_in m e     the event may come next
+--     may_ask m v        the store may be asked of the sink of vertex v
 --     why_in m a         why an attempt is not processing, None where it is
 --     why_not m e        why an event is ignored
-use Rattle.std.specs.Prelude.{Bool, false, not, ◌&&◌, ◌==◌, nat_lt, nat_le, if◌then◌else◌, Option, Some, None, is_some, is_none}
+use Rattle.std.specs.Prelude.{ℕ, Bool, false, not, ◌&&◌, ◌||◌, ◌==◌, nat_lt, nat_le, if◌then◌else◌, Option, Some, None, is_some, is_none}
 use Rattle.tez_ids.specs.declared.AttemptId.{AttemptId}
 use Rattle.tez_events.specs.declared.CoreEvent.{CoreEvent}
-use Rattle.tez_events.specs.declared.CoreEvent.TheVariants.{Open, Configure, Queue, Place, Fetch, Send, Preempt, Fail, LoseNode, LoseOutput, Restart, Ready, CommitStart, Publish, Finish, Purge}
+use Rattle.tez_events.specs.declared.CoreEvent.TheVariants.{Open, Configure, Queue, Place, Fetch, Send, Preempt, Fail, LoseNode, LoseOutput, Restart, Ready, CommitStart, Ask, Publish, Finish, Purge}
 use Rattle.tez_attempt.specs.declared.AttemptState.{AttemptState}
 use Rattle.tez_attempt.specs.declared.AttemptState.TheVariants.{Queued, Placed, Processing, Succeeded, Failed, Killed}
 use Rattle.tez_master_model.specs.declared.why.Why.{Why}
@@ -15,13 +16,26 @@ use Rattle.tez_task.specs.Table.{state_of}
 use Rattle.tez_router.specs.Table.{fetched_in, missing_in}
 use Rattle.tez_schedule.specs.Table.{configures_at, may_queue}
 use Rattle.tez_master_model.specs.State.{MasterState}
-use Rattle.tez_master_model.specs.Read.{task_in, winner_in, is_queued, waits, processes, depth_in, is_shallower_queued, free_place, is_free_place, is_on_shelf, source_in, are_done, first_sink, all_sinks, is_running}
+use Rattle.tez_master_model.specs.Read.{task_in, winner_in, is_queued, waits, processes, depth_in, is_shallower_queued, free_place, is_free_place, is_on_shelf, source_in, are_done, flag, first_sink, all_sinks, next_sink, is_next, is_running}
 
 abbrev pub is_lost : MasterState → Option AttemptId → Bool
 is_lost m None = false
 is_lost m (Some w) = is_on_shelf m w
 
--- to open and to restart is the world's
+-- a sink that may be readied: before the commit the first that is not, and in a commit that was found the next one, once the
+-- store was asked of it
+abbrev pub may_ready_in : MasterState → ℕ → Bool
+may_ready_in m v =
+    if m.found then is_next m v && (flag m.asked v && not (flag m.readied v)) else not m.committing && first_sink m m.readied v
+
+abbrev pub may_ask : MasterState → ℕ → Bool
+may_ask m v = is_running m && (m.found && (is_next m v && not (flag m.asked v)))
+
+-- in a commit of one master every sink is readied when it starts
+abbrev pub may_publish_in : MasterState → ℕ → Bool
+may_publish_in m v = m.committing && (is_next m v && (not m.found || flag m.readied v))
+
+-- to open, to restart and to ask the store is the world's
 abbrev pub enabled_in : MasterState → CoreEvent → Bool
 enabled_in m Open = false
 enabled_in m (Configure v) = is_running m && is_some (configures_at m.schedule v.0)
@@ -34,10 +48,11 @@ enabled_in m (Fail a) = is_running m && processes m a
 enabled_in m (LoseNode slot) = m.up && nat_lt slot m.conf.nodes
 enabled_in m (LoseOutput t) = m.up && is_lost m (winner_in m t)
 enabled_in m Restart = false
-enabled_in m (Ready v) = is_running m && (are_done m && (not m.committing && first_sink m m.readied v.0))
+enabled_in m (Ready v) = is_running m && (are_done m && may_ready_in m v.0)
 enabled_in m CommitStart = is_running m && (not m.committing && all_sinks m m.readied)
-enabled_in m (Publish v) = is_running m && (m.committing && first_sink m m.published v.0)
-enabled_in m Finish = is_running m && (m.committing && all_sinks m m.published)
+enabled_in m (Ask v) = false
+enabled_in m (Publish v) = is_running m && may_publish_in m v.0
+enabled_in m Finish = is_running m && (m.committing && is_none (next_sink m))
 enabled_in m Purge = m.up && m.finished
 
 -- ---- why not
@@ -85,6 +100,7 @@ why_not m (LoseOutput t) = NotEnabled
 why_not m Restart = NotEnabled
 why_not m (Ready v) = NotEnabled
 why_not m CommitStart = NotEnabled
+why_not m (Ask v) = NotEnabled
 why_not m (Publish v) = NotEnabled
 why_not m Finish = NotEnabled
 why_not m Purge = NotEnabled

@@ -1,5 +1,5 @@
 -- The entries that an event adds, from what the master holds before it.
---     entries_in m e          those of an event that may come
+--     entries_in m e          those of an event that may come, none where it is to ask the store
 --     withdrawal_in m r w     a winner is withdrawn, with the notices of this router
 --     notice_entry n          the line of a notice
 use Rattle.std.specs.Prelude.{ℕ, suc, Bool, false, if◌then◌else◌, List, [], ◌∷◌, ◌++◌, map, slice_get, Option, Some, None, unwrap_or}
@@ -15,7 +15,7 @@ use Rattle.tez_events.specs.declared.KillCause.TheVariants.{Node, Preempt as Pre
 use Rattle.tez_events.specs.declared.Entry.{Entry}
 use Rattle.tez_events.specs.declared.Entry.TheVariants.{Configured, Queued, Placed, Fetched, ReadError, InputFailed, Ordered, Failed, Killed, NodeLost, OutputLost, Rerun, Ready as Readied, Published, CommitStarted, Finished, Purged}
 use Rattle.tez_events.specs.declared.CoreEvent.{CoreEvent}
-use Rattle.tez_events.specs.declared.CoreEvent.TheVariants.{Open, Configure, Queue, Place, Fetch, Send, Preempt, Fail, LoseNode, LoseOutput, Restart, Ready, CommitStart, Publish, Finish, Purge}
+use Rattle.tez_events.specs.declared.CoreEvent.TheVariants.{Open, Configure, Queue, Place, Fetch, Send, Preempt, Fail, LoseNode, LoseOutput, Restart, Ready, CommitStart, Ask, Publish, Finish, Purge}
 use Rattle.tez_task.specs.Table.{is_last}
 use Rattle.tez_pool.specs.Table.{held_on}
 use Rattle.tez_router.specs.declared.notice.Notice.{Notice}
@@ -82,6 +82,7 @@ entries_in m (LoseOutput t) = output_lost_in (winner_in m t)
 entries_in m Restart = []
 entries_in m (Ready v) = Readied v ∷ []
 entries_in m CommitStart = CommitStarted ∷ []
+entries_in m (Ask v) = []
 entries_in m (Publish v) = Published v ∷ []
 entries_in m Finish = Finished ∷ []
 entries_in m Purge = Purged ∷ []

@@ -25,8 +25,10 @@ fresh g c n pool = record {
   schedule = planned_schedule g c;
   locations = map no_locations g.vertices;
   readied = replicate (length g.vertices) false;
-  published = replicate (length g.vertices) false;
+  asked = replicate (length g.vertices) false;
+  recorded = 0;
   committing = false;
+  found = false;
   finished = false;
   up = true;
 }

@@ -11,6 +11,9 @@
 --     queued_in m             the queued attempts, in the order of tasks
 --     are_done m              every task of every vertex has a winner
 --     first_sink m done v     v is the first vertex with a sink that is not in this list
+--     next_sink m             the vertex whose sink the journal records next, None once each is recorded
+--     is_next m v             v is that vertex
+--     next_if m test          it, if it passes the test
 use Rattle.std.specs.Prelude.{ℕ, Bool, true, false, not, ◌&&◌, ◌==◌, nat_lt, if◌then◌else◌, List, [], ◌∷◌, slice_get, position, Option, Some, None, is_some, unwrap_or, option_and_then}
 use Rattle.std.specs.List.{filter, filter_map, flat_map, list_any, list_all}
 use Rattle.std.specs.Option.{option_map, option_map_or}
@@ -142,6 +145,15 @@ first_sink m done v = is_first_without (flag done) (sinks m.plan) v
 
 abbrev pub all_sinks : MasterState → List Bool → Bool
 all_sinks m done = list_all (flag done) (sinks m.plan)
+
+abbrev pub next_sink : MasterState → Option ℕ
+next_sink m = slice_get (sinks m.plan) m.recorded
+
+abbrev pub is_next : MasterState → ℕ → Bool
+is_next m v = option_map_or (λ w. w == v) (next_sink m) false
+
+abbrev pub next_if : MasterState → (ℕ → Bool) → Option ℕ
+next_if m test = option_and_then (λ v. if test v then Some v else None) (next_sink m)
 
 -- up, and the job is not finished
 abbrev pub is_running : MasterState → Bool

@@ -4,7 +4,8 @@
 --     carried m x                the failures of a task are counted
 --     kept m k                   a winner is kept
 --     going_on m s ks            all that stands, then the failures, and then the winners
---     found m s ks               that, unless the job is finished: then it is over, and nothing is kept
+--     committed m n              a commit that had started is taken up, with n sinks recorded
+--     found m s ks               what it makes of how far the job has come: where it is finished it is over, and nothing is kept
 --     AllCanStand m xs           the vertices can have their tasks, each when its turn comes
 --     AllCanBeCarried m xs       each task had no attempt, and may fail more often than this
 --     AllCanBeKept m ks          each winner's task is there, had no attempt, and may fail more often
@@ -76,10 +77,13 @@ all_kept m ks = fold kept m ks
 abbrev pub going_on : MasterState → Standing → List KeptState → MasterState
 going_on m s ks = all_kept (all_carried (all_stood m s.configured) s.failures) ks
 
+abbrev pub committed : MasterState → ℕ → MasterState
+committed m n = record m { recorded = n; committing = true; found = true }
+
 -- by how far the job has come
 abbrev pub found_by : Phase → MasterState → Standing → List KeptState → MasterState
 found_by Running m s ks = going_on m s ks
-found_by (CommitStarted sums) m s ks = going_on m s ks
+found_by (CommitStarted sums n) m s ks = committed (going_on m s ks) n
 found_by (Finished sums) m s ks = record m { finished = true }
 
 abbrev pub found : MasterState → Standing → List KeptState → MasterState
@@ -121,7 +125,7 @@ pub record CanGoOn (m : MasterState) (s : Standing) (ks : List KeptState) : Type
 
 abbrev pub CanBeFoundAt : Phase → MasterState → Standing → List KeptState → Type 0
 CanBeFoundAt Running m s ks = CanGoOn m s ks
-CanBeFoundAt (CommitStarted sums) m s ks = CanGoOn m s ks
+CanBeFoundAt (CommitStarted sums n) m s ks = CanGoOn m s ks
 CanBeFoundAt (Finished sums) m s ks = ⊤
 
 abbrev pub CanBeFound : MasterState → Standing → List KeptState → Type 0

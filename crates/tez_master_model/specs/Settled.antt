@@ -1,8 +1,9 @@
 -- What an event makes of a master, once its answer is put into effect.
 --     settled m e             after an event that may come
 --     after_done m a made     after a report of an attempt that processes, with the bytes of its pieces by edge
+--     after_asked m v there   after the store was asked of the sink of vertex v, and had it or not
 --     withdrawn m w           a winner is withdrawn
-use Rattle.std.specs.Prelude.{ℕ, ◌/◌, true, false, ◌==◌, if◌then◌else◌, List, map, slice_set, Option, Some, None}
+use Rattle.std.specs.Prelude.{ℕ, ◌+◌, ◌/◌, Bool, true, false, ◌==◌, if◌then◌else◌, List, map, slice_set, Option, Some, None}
 use Rattle.std.specs.List.{fold}
 use Rattle.std.specs.Option.{option_map, option_map_or}
 use Rattle.tez_ids.specs.declared.TaskId.{TaskId}
@@ -11,7 +12,7 @@ use Rattle.tez_ids.specs.declared.EdgeId.{EdgeId}
 use Rattle.tez_lists.specs.Tables.{set_in}
 use Rattle.tez_vman.specs.declared.seen.Config.{Config}
 use Rattle.tez_events.specs.declared.CoreEvent.{CoreEvent}
-use Rattle.tez_events.specs.declared.CoreEvent.TheVariants.{Open, Configure, Queue, Place, Fetch, Send, Preempt, Fail, LoseNode, LoseOutput, Restart, Ready, CommitStart, Publish, Finish, Purge}
+use Rattle.tez_events.specs.declared.CoreEvent.TheVariants.{Open, Configure, Queue, Place, Fetch, Send, Preempt, Fail, LoseNode, LoseOutput, Restart, Ready, CommitStart, Ask, Publish, Finish, Purge}
 use Rattle.tez_task.specs.declared.TaskEvent.{TaskEvent}
 use Rattle.tez_task.specs.declared.TaskEvent.TheVariants as task_event
 use Rattle.tez_vertex.specs.Table.{after_configure as configured_vertex}
@@ -81,6 +82,16 @@ after_done m a made =
     (record (took m a.task (task_event.Succeed a)) { pool = after_release m.pool a; router = after_announce m.router a; schedule = after_win m.schedule a.task made })
     a.task (slot_in m a)
 
+-- ---- the commit
+
+-- one more sink is recorded
+abbrev pub one_recorded : MasterState → MasterState
+one_recorded m = record m { recorded = m.recorded + 1 }
+
+-- a sink that is there already is recorded
+abbrev pub after_asked : MasterState → ℕ → Bool → MasterState
+after_asked m v there = if there then one_recorded m else record m { asked = slice_set m.asked v true }
+
 -- ---- every event
 
 abbrev pub settled : MasterState → CoreEvent → MasterState
@@ -97,6 +108,7 @@ settled m (LoseOutput t) = with_location m t None
 settled m Restart = m
 settled m (Ready v) = record m { readied = slice_set m.readied v.0 true }
 settled m CommitStart = record m { committing = true }
-settled m (Publish v) = record m { published = slice_set m.published v.0 true }
+settled m (Ask v) = m
+settled m (Publish v) = one_recorded m
 settled m Finish = record m { finished = true }
 settled m Purge = record m { up = false }

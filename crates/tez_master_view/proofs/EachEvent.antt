@@ -3,7 +3,7 @@ use Rattle.std.specs.Prelude.{◌≡◌, true}
 use Rattle.tez_plan.specs.Dag.{Dag}
 use Rattle.tez_conf.specs.declared.values.ConfValues.{ConfValues}
 use Rattle.tez_events.specs.declared.CoreEvent.{CoreEvent}
-use Rattle.tez_events.specs.declared.CoreEvent.TheVariants.{Open, Configure, Queue, Place, Fetch, Send, Preempt, Fail, LoseNode, LoseOutput, Restart, Ready, CommitStart, Publish, Finish, Purge}
+use Rattle.tez_events.specs.declared.CoreEvent.TheVariants.{Open, Configure, Queue, Place, Fetch, Send, Preempt, Fail, LoseNode, LoseOutput, Restart, Ready, CommitStart, Ask, Publish, Finish, Purge}
 use Rattle.tez_history.specs.History.{Past}
 use Rattle.tez_history.specs.Steps.{enabled}
 use Rattle.tez_master_view.specs.Laws.{Goes, IsMasters}
@@ -26,6 +26,7 @@ event_settles g c past (LoseOutput t) go on is = output_settles g c past t go on
 event_settles g c past Restart go on is = absurd is
 event_settles g c past (Ready v) go on is = ready_settles g c past v
 event_settles g c past CommitStart go on is = start_settles g c past
+event_settles g c past (Ask v) go on is = absurd is
 event_settles g c past (Publish v) go on is = publish_settles g c past v
 event_settles g c past Finish go on is = finish_settles g c past
 event_settles g c past Purge go on is = purge_settles g c past

@@ -68,11 +68,15 @@ first_without_same has (x ∷ xs) = by (has x) refl (first_without_same has xs) 
   by true e ih = ih ∙ ap (λ b. if b then Some x else find (is_first_without has xs) xs) (sym (never e (is_first_without has xs x) refl))
   by false e ih = ap (λ b. if b then Some x else find (λ v. x == v) xs) (sym itself)
 
--- where two tests pass
-pub where_both : (a n : Bool) (f : ℕ → CoreEvent) (t : ℕ → Bool) (xs : List ℕ) → (if a && n then option_map f (find t xs) else None) ≡ option_map f (find (λ v. a && (n && t v)) xs)
-where_both true true f t xs = refl
-where_both true false f t xs = ap (option_map f) (sym (find-nowhere (λ v. false) xs (λ v. refl)))
-where_both false n f t xs = ap (option_map f) (sym (find-nowhere (λ v. false) xs (λ v. refl)))
+-- where a test passes, and where it does not
+pub where_one : (a : Bool) (f : ℕ → CoreEvent) (t : ℕ → Bool) (xs : List ℕ)
+    → (if a then option_map f (find t xs) else None) ≡ option_map f (find (λ v. a && t v) xs)
+where_one true f t xs = refl
+where_one false f t xs = ap (option_map f) (sym (find-nowhere (λ v. false) xs (λ v. refl)))
+
+pub where_not : (a : Bool) (t : ℕ → Bool) (xs : List ℕ) → (if a then None else find t xs) ≡ find (λ v. not a && t v) xs
+where_not true t xs = sym (find-nowhere (λ v. false) xs (λ v. refl))
+where_not false t xs = refl
 
 -- ---- flags of vertices
 

@@ -1,6 +1,7 @@
 -- A master goes on by the longer history.
 use Rattle.std.specs.Prelude.{◌≡◌, ℕ, suc, ⊤, nat_le, Bool, true, false, if◌then◌else◌, List, [], ◌∷◌, ◌++◌, map, Option, Some, None, refl}
 use Rattle.tez_ids.specs.declared.AttemptId.{AttemptId}
+use Rattle.tez_ids.specs.declared.VertexId.{VertexId}
 use Rattle.tez_plan.specs.Dag.{Dag, edge}
 use Rattle.tez_plan.specs.Faults.{IsValid}
 use Rattle.tez_plan.specs.Ranges.{IsInRanges}
@@ -8,21 +9,21 @@ use Rattle.tez_conf.specs.declared.values.ConfValues.{ConfValues}
 use Rattle.tez_events.specs.declared.Entry.{Entry}
 use Rattle.tez_events.specs.declared.Entry.TheVariants.{Fetched, ReadError, InputFailed, Made, Failed, NodeLost, Succeeded}
 use Rattle.tez_events.specs.declared.CoreEvent.{CoreEvent}
-use Rattle.tez_events.specs.declared.CoreEvent.TheVariants.{Open, Configure, Queue, Place, Fetch, Send, Preempt, Fail, LoseNode, LoseOutput, Restart, Ready, CommitStart, Publish, Finish, Purge}
+use Rattle.tez_events.specs.declared.CoreEvent.TheVariants.{Open, Configure, Queue, Place, Fetch, Send, Preempt, Fail, LoseNode, LoseOutput, Restart, Ready, CommitStart, Ask, Publish, Finish, Purge}
 use Rattle.tez_history.specs.History.{Past, extend, stage, holder, winner, life, failures, is_committing}
 use Rattle.tez_history.specs.Derived.{tasks, is_processing, notices, places_on, is_on_node, is_on_shelf}
-use Rattle.tez_history.specs.Steps.{enabled, entries_of, each_after, requeue, withdrawal, killed_by_node, kill_at, withdrawn_if, withdraw_lost, node_kills, node_withdrawals, fetch_entries, winner_behind, output_lost_entries, done_entries}
+use Rattle.tez_history.specs.Steps.{enabled, entries_of, each_after, requeue, withdrawal, killed_by_node, kill_at, withdrawn_if, withdraw_lost, node_kills, node_withdrawals, fetch_entries, winner_behind, output_lost_entries, done_entries, asked_entries}
 use Rattle.tez_history.specs.Follows.{AllMayFollow}
-use Rattle.tez_laws.specs.Laws.{SpendsNot}
-use Rattle.tez_laws.proofs.StepLaw.{event_may, AllNotices, notices_are}
-use Rattle.tez_laws.proofs.SoundLaw.{event_sound, report_sound}
+use Rattle.tez_laws.specs.Laws.{SpendsNot, answered}
+use Rattle.tez_laws.proofs.StepLaw.{event_may, asked_may, AllNotices, notices_are}
+use Rattle.tez_laws.proofs.SoundLaw.{event_sound, report_sound, answer_sound}
 use Rattle.tez_progress.specs.Laws.{IsFitted, is_stands}
 use Rattle.tez_progress.proofs.Configured.{fits_next}
-use Rattle.tez_pool_view.proofs.Committing.{whole_event, whole_report}
-use Rattle.tez_vertex_view.proofs.Configuring.{failed_event, failed_report}
-use Rattle.tez_router_view.proofs.Keeping.{event_fits, report_fits}
+use Rattle.tez_pool_view.proofs.Committing.{whole_event, whole_report, whole_answer}
+use Rattle.tez_vertex_view.proofs.Configuring.{failed_event, failed_report, failed_answer}
+use Rattle.tez_router_view.proofs.Keeping.{event_fits, report_fits, answer_fits}
 use Rattle.tez_master_view.specs.Laws.{Goes}
-use Rattle.tez_schedule_view.proofs.Bytes.{event_tells, report_keeps}
+use Rattle.tez_schedule_view.proofs.Bytes.{event_tells, report_keeps, answer_keeps}
 
 -- ---- no event adds a configuration that was found
 
@@ -100,9 +101,14 @@ plain_event g c past (LoseOutput t) = plain_output (winner t past)
 plain_event g c past Restart = (refl, tt)
 plain_event g c past (Ready v) = (refl, tt)
 plain_event g c past CommitStart = (refl, tt)
+plain_event g c past (Ask v) = tt
 plain_event g c past (Publish v) = (refl, tt)
 plain_event g c past Finish = (refl, tt)
 plain_event g c past Purge = (refl, tt)
+
+plain_answer : (v : VertexId) (there : Bool) → ArePlain (asked_entries v there)
+plain_answer v true = (refl, tt)
+plain_answer v false = (refl, tt)
 
 -- ---- configurations fit
 
@@ -143,4 +149,20 @@ goes_report g c past a made go runs =
       whole = whole_report g c past a made go.sound.made go.whole runs;
       failed = failed_report g c past a made go.sound.made go.failed runs;
       tells = report_keeps g c past a made go.sound.made runs go.tells;
+    }
+
+pub goes_answer : (g : Dag) (c : ConfValues) (past : Past) (v : VertexId) (there : Bool) → Goes g c past
+    → enabled g c past (Ask v) ≡ true → Goes g c (answered past v there)
+goes_answer g c past v there go on =
+    record {
+      valid = go.valid;
+      ranges = go.ranges;
+      conf = go.conf;
+      sound = answer_sound g c past v there go.sound on;
+      fitted = fitted_entries g c past (asked_entries v there) go.ranges go.valid (asked_may g c past v there on)
+          (plain_answer v there) go.fitted;
+      plan = answer_fits g past v there go.plan;
+      whole = whole_answer g past v there go.whole;
+      failed = failed_answer g past v there go.failed;
+      tells = answer_keeps past v there go.tells;
     }

@@ -15,7 +15,7 @@ use Rattle.tez_events.specs.declared.KillCause.TheVariants.{Node, Preempt as Pre
 use Rattle.tez_events.specs.declared.Entry.{Entry}
 use Rattle.tez_events.specs.declared.Entry.TheVariants.{Queued, Placed, Fetched, ReadError, Failed, Killed, NodeLost, Rerun}
 use Rattle.tez_events.specs.declared.CoreEvent.{CoreEvent}
-use Rattle.tez_events.specs.declared.CoreEvent.TheVariants.{Open, Configure, Queue, Place, Fetch, Send, Preempt, Fail, LoseNode, LoseOutput, Restart, Ready, CommitStart, Publish, Finish, Purge}
+use Rattle.tez_events.specs.declared.CoreEvent.TheVariants.{Open, Configure, Queue, Place, Fetch, Send, Preempt, Fail, LoseNode, LoseOutput, Restart, Ready, CommitStart, Ask, Publish, Finish, Purge}
 use Rattle.tez_task.specs.Table.{is_last}
 use Rattle.tez_pool_view.proofs.Reading.{view_get, read_life, read_node}
 use Rattle.tez_history.specs.Shape.{places, is_vertex}
@@ -164,6 +164,7 @@ adds g c past (LoseOutput t) goes on is = ap output_lost_in (winner_read g c pas
 adds g c past Restart goes on is = absurd is
 adds g c past (Ready v) goes on is = refl
 adds g c past CommitStart goes on is = refl
+adds g c past (Ask v) goes on is = absurd is
 adds g c past (Publish v) goes on is = refl
 adds g c past Finish goes on is = refl
 adds g c past Purge goes on is = refl

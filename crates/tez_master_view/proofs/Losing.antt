@@ -44,9 +44,9 @@ use Rattle.tez_master_model.specs.Read.{lost_in, winners_in, is_on_slot}
 use Rattle.tez_master_model.specs.Settled.{killed, withdrawn, without_node, on_no_slot}
 use Rattle.tez_master_view.specs.View.{master_view, locations_view}
 use Rattle.tez_master_view.specs.Laws.{Goes}
-use Rattle.tez_master_view.proofs.Parts.{killed_all, withdrawn_all, lose_location, unready}
+use Rattle.tez_master_view.proofs.Parts.{Rest, killed_all, withdrawn_all, lose_location, unready}
 use Rattle.tez_master_view.proofs.Own.{node_locations, withdrawn_locations, withdrawn_readied, readied_view}
-use Rattle.tez_master_view.proofs.Simple.{Settles, Rest, settles, rest}
+use Rattle.tez_master_view.proofs.Simple.{Settles, settles, rest}
 use Rattle.tez_master_view.proofs.Fetching.{slot_read, withdrawn_rest}
 
 -- ---- the winners that are lost

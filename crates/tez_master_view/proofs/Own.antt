@@ -1,4 +1,4 @@
--- What each entry makes of the parts that are the master's own: where pieces lie, and which sinks are readied and published.
+-- What each entry makes of the parts that are the master's own: where pieces lie, which sinks are readied and asked of.
 use Rattle.std.specs.Prelude.{◌≡◌, ℕ, ◌+◌, ◌<◌, Bool, true, false, ◌||◌, ◌==◌, if◌then◌else◌, List, [], ◌∷◌, map, length, slice_get, slice_set, Option, Some, None, unwrap_or, option_and_then, refl}
 use Rattle.std.proofs.Common.{ap, sym, ◌∙◌, subst, arith, zero-add}
 use Rattle.std.proofs.lemmas.Bool.Decides.{nat_tests}
@@ -11,9 +11,9 @@ use Rattle.tez_lists.specs.Tables.{set_in}
 use Rattle.tez_lists.proofs.Tables.{map_below, map_each, set_each, set_table, cell_get}
 use Rattle.tez_plan.specs.Dag.{Dag, edge, tasks_of as planned}
 use Rattle.tez_conf.specs.declared.values.ConfValues.{ConfValues}
-use Rattle.tez_events.specs.declared.Entry.TheVariants.{Succeeded, Made, NodeLost, OutputLost, Rerun, Ready, Published}
+use Rattle.tez_events.specs.declared.Entry.TheVariants.{Succeeded, Made, NodeLost, OutputLost, Rerun, Ready, Asked}
 use Rattle.tez_history.specs.Shape.{vertices, slot_of}
-use Rattle.tez_history.specs.History.{Past, Runs, Location, Nowhere, On, InQuestion, extend, stage, winner, location, put_by, lost_on, is_readied, is_published}
+use Rattle.tez_history.specs.History.{Past, Runs, Location, Nowhere, On, InQuestion, extend, stage, winner, location, put_by, lost_on, is_readied, was_asked}
 use Rattle.tez_history.specs.Derived.{task_count, is_configured}
 use Rattle.tez_history.specs.Steps.{withdrawal}
 use Rattle.tez_history.specs.Follows.{IsMade}
@@ -140,8 +140,8 @@ location_read g c past w m fits won =
 abbrev pub readied_view : Dag → Past → List Bool
 readied_view g past = map (λ v. is_readied v past) (vertices g)
 
-abbrev pub published_view : Dag → Past → List Bool
-published_view g past = map (λ v. is_published v past) (vertices g)
+abbrev pub asked_view : Dag → Past → List Bool
+asked_view g past = map (λ v. was_asked v past) (vertices g)
 
 -- one more
 flagged : (f : ℕ → Bool) (v n : ℕ) → slice_set (map f (numbers_from 0 n)) v true ≡ map (λ w. (v == w) || f w) (numbers_from 0 n)
@@ -156,8 +156,9 @@ flagged f v n =
 pub ready_set : (g : Dag) (past : Past) (v : VertexId) → slice_set (readied_view g past) v.0 true ≡ readied_view g (Ready v ∷ past)
 ready_set g past v = flagged (λ w. is_readied w past) v.0 (length g.vertices)
 
-pub published_set : (g : Dag) (past : Past) (v : VertexId) → slice_set (published_view g past) v.0 true ≡ published_view g (Published v ∷ past)
-published_set g past v = flagged (λ w. is_published w past) v.0 (length g.vertices)
+pub asked_set : (g : Dag) (past : Past) (v : VertexId)
+    → slice_set (asked_view g past) v.0 true ≡ asked_view g (Asked v ∷ past)
+asked_set g past v = flagged (λ w. was_asked w past) v.0 (length g.vertices)
 
 pub withdrawn_readied : (g : Dag) (past : Past) (w : AttemptId) → none_readied (readied_view g past) ≡ readied_view g (extend past (withdrawal g past w))
 withdrawn_readied g past w = map_each (λ b. false) (λ v. is_readied v past) 0 (length g.vertices) ∙ sym (withdrawn_fact g past w (λ p. readied_view g p) (λ p a e i x. refl) (λ p. refl))

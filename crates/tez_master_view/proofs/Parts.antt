@@ -16,34 +16,42 @@ use Rattle.tez_schedule_view.specs.Events.{after_withdraws as unscheduled_wins}
 use Rattle.tez_master_model.specs.State.{MasterState}
 use Rattle.tez_master_model.specs.Settled.{killed, withdrawn}
 
-abbrev pub state : Dag → ConfValues → ℕ → List Vertex → PoolState → RouterState → ScheduleState → List (List (Option ℕ)) → List Bool → List Bool → Bool → Bool → Bool → MasterState
-state g c n vs p r s l x y a b u = record {
+-- what few entries change: the epoch, the sinks that were asked of, how many are recorded, and how far the job has come
+abbrev pub Rest : Type 0
+Rest = ℕ × List Bool × ℕ × Bool × Bool × Bool × Bool
+
+abbrev pub state : Dag → ConfValues → Rest → List Vertex → PoolState → RouterState → ScheduleState
+    → List (List (Option ℕ)) → List Bool → MasterState
+state g c q vs p r s l x = record {
   plan = g;
   conf = c;
-  epoch = n;
+  epoch = q.0;
   vertices = vs;
   pool = p;
   router = r;
   schedule = s;
   locations = l;
   readied = x;
-  published = y;
-  committing = a;
-  finished = b;
-  up = u;
+  asked = q.1;
+  recorded = q.2;
+  committing = q.3;
+  found = q.4;
+  finished = q.5;
+  up = q.6;
 }
 
-pub same_parts : (g : Dag) (c : ConfValues) {vs ws : List Vertex} {p q : PoolState} {r t : RouterState} {s k : ScheduleState} {l m : List (List (Option ℕ))} {x z : List Bool} (n : ℕ) (y : List Bool) (a b u : Bool)
-    → vs ≡ ws → p ≡ q → r ≡ t → s ≡ k → l ≡ m → x ≡ z → state g c n vs p r s l x y a b u ≡ state g c n ws q t k m z y a b u
-same_parts g c {vs} {ws} {p} {q} {r} {t} {s} {k} {l} {m} {x} {z} n y a b u v1 p1 r1 s1 l1 x1 =
-    ap (λ o. state g c n o p r s l x y a b u) v1 ∙ ap (λ o. state g c n ws o r s l x y a b u) p1 ∙ ap (λ o. state g c n ws q o s l x y a b u) r1
-    ∙ ap (λ o. state g c n ws q t o l x y a b u) s1 ∙ ap (λ o. state g c n ws q t k o x y a b u) l1 ∙ ap (λ o. state g c n ws q t k m o y a b u) x1
+pub same_parts : (g : Dag) (c : ConfValues) (q : Rest) {vs ws : List Vertex} {p o : PoolState} {r t : RouterState}
+    {s k : ScheduleState} {l m : List (List (Option ℕ))} {x z : List Bool}
+    → vs ≡ ws → p ≡ o → r ≡ t → s ≡ k → l ≡ m → x ≡ z → state g c q vs p r s l x ≡ state g c q ws o t k m z
+same_parts g c q {vs} {ws} {p} {o} {r} {t} {s} {k} {l} {m} {x} {z} v1 p1 r1 s1 l1 x1 =
+    ap (λ i. state g c q i p r s l x) v1 ∙ ap (λ i. state g c q ws i r s l x) p1 ∙ ap (λ i. state g c q ws o i s l x) r1
+    ∙ ap (λ i. state g c q ws o t i l x) s1 ∙ ap (λ i. state g c q ws o t k i x) l1
+    ∙ ap (λ i. state g c q ws o t k m i) x1
 
-pub same_rest : (g : Dag) (c : ConfValues) (vs : List Vertex) (p : PoolState) (r : RouterState) (s : ScheduleState) (l : List (List (Option ℕ))) (x : List Bool) {n o : ℕ} {y z : List Bool} {a d b e u w : Bool}
-    → n ≡ o → y ≡ z → a ≡ d → b ≡ e → u ≡ w → state g c n vs p r s l x y a b u ≡ state g c o vs p r s l x z d e w
-same_rest g c vs p r s l x {n} {o} {y} {z} {a} {d} {b} {e} {u} {w} n1 y1 a1 b1 u1 =
-    ap (λ i. state g c i vs p r s l x y a b u) n1 ∙ ap (λ i. state g c o vs p r s l x i a b u) y1 ∙ ap (λ i. state g c o vs p r s l x z i b u) a1
-    ∙ ap (λ i. state g c o vs p r s l x z d i u) b1 ∙ ap (λ i. state g c o vs p r s l x z d e i) u1
+pub same_rest : (g : Dag) (c : ConfValues) (vs : List Vertex) (p : PoolState) (r : RouterState) (s : ScheduleState)
+    (l : List (List (Option ℕ))) (x : List Bool) {q o : Rest}
+    → q ≡ o → state g c q vs p r s l x ≡ state g c o vs p r s l x
+same_rest g c vs p r s l x q1 = ap (λ i. state g c i vs p r s l x) q1
 
 -- ---- several, one after another
 

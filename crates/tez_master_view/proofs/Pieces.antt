@@ -1,5 +1,5 @@
 -- The output behind an input is the one that the table of the edge leads to.
-use Rattle.std.specs.Prelude.{◌≡◌, ℕ, zero, suc, ◌+◌, ◌<◌, nat_lt, true, if◌then◌else◌, List, [], ◌∷◌, map, slice_get, Option, Some, None, refl}
+use Rattle.std.specs.Prelude.{◌≡◌, ℕ, zero, suc, ◌+◌, ◌<◌, nat_lt, if◌then◌else◌, List, [], ◌∷◌, map, slice_get, Some}
 use Rattle.std.specs.List.{enumerate_from}
 use Rattle.std.specs.Option.{option_map, option_map_or}
 use Rattle.std.proofs.Common.{ap, sym, ◌∙◌, arith, subst, zero-add}
@@ -14,7 +14,7 @@ use Rattle.tez_history.specs.Derived.{table_over, input_count}
 use Rattle.tez_history.specs.Steps.{winner_behind}
 use Rattle.tez_router.specs.State.{table_for}
 use Rattle.tez_router.specs.Table.{inputs_in, output_of, output_in}
-use Rattle.tez_router_view.specs.View.{router_view, links_view, link_view, routing_view}
+use Rattle.tez_router_view.specs.View.{links_view, link_view, routing_view}
 use Rattle.tez_router_view.proofs.Edges.{table_view, inputs_same}
 use Rattle.tez_router_view.proofs.Reading.{source_read}
 use Rattle.tez_master_model.specs.Read.{piece_in, source_in}

@@ -1,7 +1,7 @@
 -- Events that concern one attempt or one sink, and what they make of a master.
-use Rattle.std.specs.Prelude.{◌≡◌, ℕ, suc, ◌/◌, nat_le, Bool, true, false, not, if◌then◌else◌, List, [], ◌∷◌, map, Option, Some, None, refl}
+use Rattle.std.specs.Prelude.{◌≡◌, ℕ, suc, ◌+◌, ◌/◌, nat_le, Bool, true, false, not, if◌then◌else◌, List, [], ◌∷◌, map, Option, Some, None, refl}
 use Rattle.std.specs.Option.{option_map}
-use Rattle.std.proofs.Common.{ap, sym, ◌∙◌, subst}
+use Rattle.std.proofs.Common.{ap, sym, ◌∙◌, subst, arith}
 use Rattle.tez_ids.specs.declared.TaskId.{TaskId}
 use Rattle.tez_ids.specs.declared.AttemptId.{AttemptId}
 use Rattle.tez_ids.specs.declared.VertexId.{VertexId}
@@ -10,14 +10,15 @@ use Rattle.tez_ids.specs.Same.{same_attempt}
 use Rattle.tez_plan.specs.Dag.{Dag, edge}
 use Rattle.tez_conf.specs.declared.values.ConfValues.{ConfValues}
 use Rattle.tez_vertex.specs.Vertex.{Vertex}
-use Rattle.tez_events.specs.declared.Entry.TheVariants.{Placed, Ordered, Succeeded, Made, Failed, OutputLost, Ready as Readied, Published, CommitStarted, Finished, Purged}
+use Rattle.tez_events.specs.declared.Entry.TheVariants.{Placed, Ordered, Succeeded, Made, Failed, OutputLost, Ready as Readied, Asked, Settled, Published, CommitStarted, Finished, Purged}
 use Rattle.tez_events.specs.declared.CoreEvent.{CoreEvent}
 use Rattle.tez_events.specs.declared.CoreEvent.TheVariants.{Queue, Place, Send, Preempt, Fail, LoseOutput, Ready, CommitStart, Publish, Finish, Purge}
 use Rattle.tez_history.specs.Shape.{slot_of}
-use Rattle.tez_history.specs.History.{Past, Runs, extend, stage, winner, epoch, container_of, failures, is_up, is_committing, is_finished}
+use Rattle.tez_history.specs.History.{Past, Runs, extend, stage, winner, epoch, container_of, failures, recorded, is_up, is_committing, is_found, is_finished}
 use Rattle.tez_history.specs.Derived.{is_waiting, is_processing, waiting_attempts, live_attempts, next_attempt}
 use Rattle.tez_history.specs.Steps.{enabled, entries_of, requeue, done_entries, is_running, is_winner_on_shelf, output_lost_entries}
 use Rattle.tez_history.specs.Follows.{IsMade}
+use Rattle.tez_laws.specs.Laws.{answered}
 use Rattle.tez_laws.proofs.Same.{same_attempt-true}
 use Rattle.tez_laws.proofs.OneLive.{one_live, running_alive}
 use Rattle.tez_laws.proofs.StepLaw.{both}
@@ -42,27 +43,26 @@ use Rattle.tez_schedule_view.proofs.Changing.{queued_view}
 use Rattle.tez_schedule_view.proofs.Winning.{done_view as won_view}
 use Rattle.tez_schedule_view.proofs.ByEvent.{preempt_view, fail_view}
 use Rattle.tez_master_model.specs.State.{MasterState}
-use Rattle.tez_master_model.specs.Settled.{settled, after_done, with_location}
+use Rattle.tez_master_model.specs.Settled.{settled, after_done, after_asked, with_location}
 use Rattle.tez_master_view.specs.View.{master_view, locations_view}
 use Rattle.tez_master_view.specs.Laws.{Goes}
 use Rattle.tez_master_model.specs.Bytes.{bytes_of}
-use Rattle.tez_master_view.proofs.Parts.{state, same_parts}
-use Rattle.tez_master_view.proofs.Own.{lost_locations, done_locations, readied_view, published_view, ready_set, published_set}
+use Rattle.tez_master_view.proofs.Parts.{Rest, state, same_parts}
+use Rattle.tez_master_view.proofs.Own.{lost_locations, done_locations, readied_view, asked_view, ready_set, asked_set}
 
 -- what a master is once its own fields that seldom change are those of another moment
-abbrev pub Rest : Type 0
-Rest = ℕ × List Bool × Bool × Bool × Bool
-
 abbrev pub rest : Dag → Past → Rest
-rest g past = (epoch past, published_view g past, is_committing past, is_finished past, is_up past)
+rest g past = (epoch past, asked_view g past, recorded past, is_committing past, is_found past, is_finished past, is_up past)
 
 abbrev pub with_rest : Dag → ConfValues → Past → Rest → MasterState
-with_rest g c past r = state g c r.0 (vertices_view g c past) (pool_view c past) (router_view g past) (schedule_view g c past) (locations_view g c past) (readied_view g past) r.1 r.2 r.3 r.4
+with_rest g c past q =
+    state g c q (vertices_view g c past) (pool_view c past) (router_view g past) (schedule_view g c past)
+    (locations_view g c past) (readied_view g past)
 
 pub settles : (g : Dag) (c : ConfValues) (past later : Past) {vs : List Vertex} {p : PoolState} {r : RouterState} {s : ScheduleState} {l : List (List (Option ℕ))} {x : List Bool} → vs ≡ vertices_view g c later → p ≡ pool_view c later → r ≡ router_view g later → s ≡ schedule_view g c later → l ≡ locations_view g c later → x ≡ readied_view g later
-    → rest g past ≡ rest g later → state g c (epoch past) vs p r s l x (published_view g past) (is_committing past) (is_finished past) (is_up past) ≡ master_view g c later
+    → rest g past ≡ rest g later → state g c (rest g past) vs p r s l x ≡ master_view g c later
 settles g c past later vs1 p1 r1 s1 l1 x1 rest1 =
-    same_parts g c (epoch past) (published_view g past) (is_committing past) (is_finished past) (is_up past) vs1 p1 r1 s1 l1 x1 ∙ ap (with_rest g c later) rest1
+    same_parts g c (rest g past) vs1 p1 r1 s1 l1 x1 ∙ ap (with_rest g c later) rest1
 
 abbrev pub Settles : Dag → ConfValues → Past → CoreEvent → Type 0
 Settles g c past e = settled (master_view g c past) e ≡ master_view g c (extend past (entries_of g c past e))
@@ -142,10 +142,28 @@ ready_settles g c past v = settles g c past (Readied v ∷ past) refl refl refl 
 pub start_settles : (g : Dag) (c : ConfValues) (past : Past) → Settles g c past CommitStart
 start_settles g c past = ap (λ s. record (master_view g c (CommitStarted ∷ past)) { schedule = s }) (sym (silent_view g c past CommitStarted tt))
 
+-- one more sink is recorded, be it published by this master or found in the store
+one_more : (n : ℕ) → n + 1 ≡ suc n
+one_more n = omega arith
+
+counted : (g : Dag) (c : ConfValues) (past : Past) (s : ScheduleState) → s ≡ schedule_view g c past
+    → record (master_view g c past) { recorded = recorded past + 1 }
+    ≡ record (master_view g c past) { schedule = s; recorded = suc (recorded past) }
+counted g c past s is =
+    ap (λ n. record (master_view g c past) { recorded = n }) (one_more (recorded past))
+    ∙ ap (λ x. record (master_view g c past) { schedule = x; recorded = suc (recorded past) }) (sym is)
+
 pub publish_settles : (g : Dag) (c : ConfValues) (past : Past) (v : VertexId) → Settles g c past (Publish v)
 publish_settles g c past v =
-    ap (λ y. record (master_view g c past) { published = y }) (published_set g past v)
-    ∙ ap (λ s. record (master_view g c (Published v ∷ past)) { schedule = s }) (sym (silent_view g c past (Published v) tt))
+    counted g c past (schedule_view g c (Published v ∷ past)) (silent_view g c past (Published v) tt)
+
+pub ask_settles : (g : Dag) (c : ConfValues) (past : Past) (v : VertexId) (there : Bool)
+    → after_asked (master_view g c past) v.0 there ≡ master_view g c (answered past v there)
+ask_settles g c past v true =
+    counted g c past (schedule_view g c (Settled v ∷ past)) (silent_view g c past (Settled v) tt)
+ask_settles g c past v false =
+    ap (λ y. record (master_view g c past) { asked = y }) (asked_set g past v)
+    ∙ ap (λ s. record (master_view g c (Asked v ∷ past)) { schedule = s }) (sym (silent_view g c past (Asked v) tt))
 
 pub finish_settles : (g : Dag) (c : ConfValues) (past : Past) → Settles g c past Finish
 finish_settles g c past = ap (λ s. record (master_view g c (Finished ∷ past)) { schedule = s }) (sym (silent_view g c past Finished tt))

@@ -1,5 +1,5 @@
 -- A master that stands for a history: who is queued holds no place, who processes is at a task, and a vertex can have its tasks.
-use Rattle.std.specs.Prelude.{◌≡◌, ℕ, zero, suc, ◌*◌, ◌/◌, ◌<◌, ◌≤◌, ◌^◌, max, ◌==◌, nat_lt, nat_le, Bool, true, false, ◌&&◌, if◌then◌else◌, List, [], ◌∷◌, map, length, slice_get, Option, Some, None, IfSome, is_none, is_some, unwrap_or, refl}
+use Rattle.std.specs.Prelude.{◌≡◌, ℕ, zero, suc, ◌*◌, ◌<◌, ◌≤◌, ◌^◌, ◌==◌, nat_lt, nat_le, Bool, true, false, if◌then◌else◌, List, [], ◌∷◌, map, length, slice_get, Option, Some, None, IfSome, is_none, is_some, unwrap_or, refl}
 use Rattle.std.specs.List.{enumerate_from, AllByRecursion}
 use Rattle.std.specs.Option.{option_map, option_map_or}
 use Rattle.std.proofs.Common.{ap, sym, ◌∙◌, arith, subst, inl, inr}
@@ -12,7 +12,6 @@ use Rattle.tez_ids.specs.declared.VertexId.{VertexId}
 use Rattle.tez_ids.specs.declared.AttemptId.{AttemptId}
 use Rattle.tez_plan.specs.Dag.{Dag, from, to, tasks_of as planned}
 use Rattle.tez_plan.specs.Ranges.{IsInRanges, vertex_in_range, is_within, most_tasks}
-use Rattle.tez_plan.specs.declared.parts.EdgeSpec.{EdgeSpec}
 use Rattle.tez_plan.specs.declared.parts.VertexSpec.{VertexSpec}
 use Rattle.tez_plan.specs.declared.parts.Movement.{Movement}
 use Rattle.tez_plan.specs.declared.parts.Movement.TheVariants.{OneToOne, Broadcast, ScatterGather}
@@ -22,10 +21,10 @@ use Rattle.tez_vman.specs.declared.seen.Config.{Config}
 use Rattle.tez_vman.specs.Rules.{config as shape, configures as configures_by, Shuffling, has_enough, shrunk}
 use Rattle.tez_events.specs.declared.Entry.TheVariants.{Configured}
 use Rattle.tez_events.specs.declared.CoreEvent.TheVariants.{Configure}
-use Rattle.tez_history.specs.Shape.{Edge, Feed, ByFile, ByVertex, ByPartitions, feed, rule_by, is_vertex}
-use Rattle.tez_history.specs.History.{Past, Stage, Unknown, InQueue, Waits, Runs, Ended, stage, config, extend, is_up}
+use Rattle.tez_history.specs.Shape.{Feed, ByFile, ByVertex, ByPartitions, feed, rule_by, is_vertex}
+use Rattle.tez_history.specs.History.{Past, Stage, Unknown, InQueue, Waits, Runs, Ended, stage, config, is_up}
 use Rattle.tez_history.specs.Derived.{configures, seen, source_tasks, is_task as is_task_at, is_configured, task_count, shape_of, is_queued as is_queued_at}
-use Rattle.tez_history.specs.Steps.{enabled, entries_of, is_running}
+use Rattle.tez_history.specs.Steps.{enabled, is_running}
 use Rattle.tez_history.specs.Follows.{IsMade}
 use Rattle.tez_laws.proofs.StepLaw.{both, below, event_may}
 use Rattle.tez_laws.proofs.OneLive.{running_alive}
@@ -50,7 +49,6 @@ use Rattle.tez_schedule_view.specs.View.{schedule_view, progress_view}
 use Rattle.tez_schedule_view.proofs.Lists.{get-here}
 use Rattle.tez_schedule_view.proofs.Seeing.{configures_same}
 use Rattle.tez_master_model.specs.Read.{is_queued, processes}
-use Rattle.tez_master_model.specs.Enabled.{enabled_in}
 use Rattle.tez_master_view.specs.View.{master_view}
 use Rattle.tez_master_view.specs.Laws.{Goes}
 use Rattle.tez_master_model.specs.Steady.{IsSteady, CanHaveConfig}

@@ -1,6 +1,6 @@
 -- What the laws of a master ask of a history, and what they say.
 --     Goes g c past       a master can go by this history
---     IsMasters e         an event that a master takes; to open and to restart is the world's
+--     IsMasters e         an event that a master takes; to open, to restart and to ask the store is the world's
 --     why_after past a    why an attempt is not processing
 use Rattle.std.specs.Prelude.{⊤, nat_lt, if◌then◌else◌, Option, Some, None}
 use Rattle.tez_ids.specs.declared.AttemptId.{AttemptId}
@@ -10,7 +10,7 @@ use Rattle.tez_plan.specs.Ranges.{IsInRanges}
 use Rattle.tez_conf.specs.declared.values.ConfValues.{ConfValues}
 use Rattle.tez_conf.specs.Ranges.{IsInRange}
 use Rattle.tez_events.specs.declared.CoreEvent.{CoreEvent}
-use Rattle.tez_events.specs.declared.CoreEvent.TheVariants.{Open, Configure, Queue, Place, Fetch, Send, Preempt, Fail, LoseNode, LoseOutput, Restart, Ready, CommitStart, Publish, Finish, Purge}
+use Rattle.tez_events.specs.declared.CoreEvent.TheVariants.{Open, Configure, Queue, Place, Fetch, Send, Preempt, Fail, LoseNode, LoseOutput, Restart, Ready, CommitStart, Ask, Publish, Finish, Purge}
 use Rattle.tez_history.specs.History.{Past, Stage, Unknown, InQueue, Waits, Runs, Ended, epoch, stage}
 use Rattle.tez_laws.specs.Laws.{Sound}
 use Rattle.tez_progress.specs.Laws.{IsFitted}
@@ -46,6 +46,7 @@ IsMasters (LoseOutput t) = ⊤
 IsMasters Restart = ⊥
 IsMasters (Ready v) = ⊤
 IsMasters CommitStart = ⊤
+IsMasters (Ask v) = ⊥
 IsMasters (Publish v) = ⊤
 IsMasters Finish = ⊤
 IsMasters Purge = ⊤

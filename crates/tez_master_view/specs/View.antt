@@ -8,7 +8,7 @@ use Rattle.tez_lists.specs.Tables.{table}
 use Rattle.tez_plan.specs.Dag.{Dag, tasks_of as planned}
 use Rattle.tez_conf.specs.declared.values.ConfValues.{ConfValues}
 use Rattle.tez_history.specs.Shape.{vertices}
-use Rattle.tez_history.specs.History.{Past, Location, Nowhere, On, InQuestion, epoch, winner, location, is_readied, is_published, is_committing, is_finished, is_up}
+use Rattle.tez_history.specs.History.{Past, Location, Nowhere, On, InQuestion, epoch, winner, location, is_readied, was_asked, recorded, is_committing, is_found, is_finished, is_up}
 use Rattle.tez_vertex_view.specs.View.{vertices_view}
 use Rattle.tez_pool_view.specs.View.{pool_view}
 use Rattle.tez_router_view.specs.View.{router_view}
@@ -37,8 +37,10 @@ master_view g c past = record {
   schedule = schedule_view g c past;
   locations = locations_view g c past;
   readied = map (λ v. is_readied v past) (vertices g);
-  published = map (λ v. is_published v past) (vertices g);
+  asked = map (λ v. was_asked v past) (vertices g);
+  recorded = recorded past;
   committing = is_committing past;
+  found = is_found past;
   finished = is_finished past;
   up = is_up past;
 }

@@ -9,7 +9,9 @@ mod choosing;
 mod settling;
 mod steady;
 
-pub use answers::{master_adds_the_entries, master_takes_what_is_enabled, master_tells_why};
+pub use answers::{
+    master_adds_the_entries, master_asks, master_takes_what_is_enabled, master_tells_why,
+};
 pub use choosing::master_chooses;
-pub use settling::{events_settle, masters_go_on, reports_settle};
+pub use settling::{asks_settle, events_settle, masters_go_on, reports_settle};
 pub use steady::{masters_are_steady, pieces_are_told};
