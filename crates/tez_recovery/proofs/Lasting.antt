@@ -17,19 +17,24 @@ use Rattle.tez_standing.specs.declared.state.Standing.{Standing}
 use Rattle.tez_history.specs.History.{Past, config, extend}
 use Rattle.tez_history.specs.Derived.{is_task}
 use Rattle.tez_history.specs.Rules.{is_at_start}
-use Rattle.tez_history.specs.Runs.{Run, Unfinished, AllDone, opened_at, opened_by, opened_unless}
-use Rattle.tez_laws.proofs.SoundLaw.{run_between, stop_sound, over_sound, open_sound}
-use Rattle.tez_progress.specs.Laws.{found_configs}
+use Rattle.tez_history.specs.Runs.{Run, Unfinished, AllDone, Committed, opened_at, opened_by}
+use Rattle.tez_history.specs.Runs.{opened_unless, committed_unless}
+use Rattle.tez_laws.specs.Laws.{Sound}
+use Rattle.tez_laws.proofs.SoundLaw.{run_between, stop_sound, over_sound, open_sound, taken_sound}
+use Rattle.tez_progress.specs.Laws.{IsFitted, found_configs}
 use Rattle.tez_progress.proofs.Fitting.{fits_none}
-use Rattle.tez_progress.proofs.Opening.{opening_fits}
+use Rattle.tez_progress.proofs.Opening.{opening_fits, committed_fits}
 use Rattle.tez_pool_view.proofs.Committing.{whole_new, whole_stop, whole_start}
 use Rattle.tez_vertex_view.specs.View.{FailedStand}
 use Rattle.tez_vertex_view.proofs.Opening.{failed_start}
-use Rattle.tez_router_view.proofs.Keeping.{fits_planned, entry_fits, opened_fits}
-use Rattle.tez_schedule_view.proofs.Bytes.{first_tells, stop_keeps, over_keeps, opened_keeps}
+use Rattle.tez_router_view.specs.View.{FitsPlan}
+use Rattle.tez_router_view.proofs.Keeping.{fits_planned, entry_fits, opened_fits, taken_up_fits}
+use Rattle.tez_schedule_view.specs.Events.{TellsInTime}
+use Rattle.tez_schedule_view.proofs.Bytes.{first_tells, stop_keeps, over_keeps, opened_keeps, taken_up_keeps}
 use Rattle.tez_master_view.specs.Laws.{Goes}
 use Rattle.tez_master_model.specs.Recovery.{KeptState}
-use Rattle.tez_recovery.specs.Laws.{as_ground, found_in, start_of, IsSizedFor, IsGoingOn, IsFoundIn, IsFoundAt}
+use Rattle.tez_recovery.specs.Laws.{as_ground, committed_in, found_in, start_of, IsSizedFor, IsGoingOn, IsFoundIn}
+use Rattle.tez_recovery.specs.Laws.{IsFoundAt}
 use Rattle.tez_recovery.proofs.Entries.{stands_all, task_stands, unspent}
 
 pub goes_first : (g : Dag) (c : ConfValues) → IsValid g → IsInRanges g → IsInRange c → Goes g c []
@@ -96,17 +101,40 @@ goes_open g c past s ks go start f =
       valid = go.valid;
       ranges = go.ranges;
       conf = go.conf;
-      sound = subst (Rattle.tez_laws.specs.Laws.Sound g c) (sym is) (open_sound g c past x go.conf.some_failed go.sound start none);
-      fitted = subst (Rattle.tez_progress.specs.Laws.IsFitted g) (sym is) (opening_fits g past x go.valid f.right.fits);
-      plan = subst (Rattle.tez_router_view.specs.View.FitsPlan g) (sym is) (opened_fits g past x (few g s.configured f.right.sized));
+      sound = subst (Sound g c) (sym is) (open_sound g c past x go.conf.some_failed go.sound start none);
+      fitted = subst (IsFitted g) (sym is) (opening_fits g past x go.valid f.right.fits);
+      plan = subst (FitsPlan g) (sym is) (opened_fits g past x (few g s.configured f.right.sized));
       whole = whole_start g c (at past) (Unfinished x) start go.whole;
       failed = failed_start g c (at past) (Unfinished x) (failed_stand g c past s ks f) go.failed;
-      tells = subst Rattle.tez_schedule_view.specs.Events.TellsInTime (sym is) (opened_keeps g past x go.tells);
+      tells = subst TellsInTime (sym is) (opened_keeps g past x go.tells);
+    }
+
+goes_taken_up : (g : Dag) (c : ConfValues) (past : Past) (s : Standing) (ks : List KeptState) (n : ℕ)
+    → Goes g c past → is_at_start past ≡ true → IsGoingOn g c past s ks
+    → Goes g c (opened_by g c (at past) (Committed (as_ground s ks) n)).past
+goes_taken_up g c past s ks n go start f =
+    let x = as_ground s ks in
+    let none = unspent c s ks f.few in
+    let is = ap (λ o. (committed_unless g (at past) x n o).past) none in
+    record {
+      valid = go.valid;
+      ranges = go.ranges;
+      conf = go.conf;
+      sound = subst (Sound g c) (sym is) (taken_sound g c past x n go.conf.some_failed go.sound start none);
+      fitted = subst (IsFitted g) (sym is) (committed_fits g past x n go.valid f.right.fits);
+      plan = subst (FitsPlan g) (sym is) (taken_up_fits g past x n (few g s.configured f.right.sized));
+      whole = whole_start g c (at past) (Committed x n) start go.whole;
+      failed = failed_start g c (at past) (Committed x n) (failed_stand g c past s ks f) go.failed;
+      tells = subst TellsInTime (sym is) (taken_up_keeps g past x n go.tells);
     }
 
 pub goes_start : (g : Dag) (c : ConfValues) (past : Past) (s : Standing) (ks : List KeptState) → Goes g c past → is_at_start past ≡ true → IsFoundAt g c past s ks → Goes g c (start_of g c past s ks)
 goes_start g c past s ks go start f = by s.phase f where
-  by : (p : Phase) → IsFoundIn p g c past s ks → Goes g c (opened_by g c (at past) (found_in p (as_ground s ks))).past
+  by : (p : Phase) → IsFoundIn p g c past s ks
+      → Goes g c (opened_by g c (at past) (found_in p s.version (as_ground s ks))).past
   by Running h = goes_open g c past s ks go start h
-  by (CommitStarted sums) h = absurd h
+  by (CommitStarted sums n) h =
+      let x = as_ground s ks in
+      subst (λ v. Goes g c (opened_by g c (at past) (committed_in v x n)).past) (sym h.version)
+      (goes_taken_up g c past s ks n go start h.going)
   by (Finished sums) h = goes_over g c past go start

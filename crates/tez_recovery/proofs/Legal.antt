@@ -52,12 +52,19 @@ once f a (suc n) = by (once f (suc a) n) (f a) where
 
 -- ---- a task that is set is one of the standing
 
+-- a setting has its row
+pub row_there : (g : Dag) (rs : List JournalRecord) (v : ℕ) (s : Setting) → v < length g.vertices
+    → setting rs v ≡ Some s → In (row_of v s) (standing g rs).configured
+row_there g rs v s inside e =
+    let n = length g.vertices in
+    let row = row_of v s in
+    let here : In row (setting_row v (setting rs v)) = subst (λ o. In row (setting_row v o)) (sym e) (inl refl) in
+    in_flat_map (λ w. setting_row w (setting rs w)) v row (numbers_from 0 n) (below-in n v inside) here
+
 set_there : (g : Dag) (rs : List JournalRecord) (t : TaskId) → IsTold g rs → IsSet rs t → is_task_of (standing g rs) t ≡ true
 set_there g rs t told k =
     let v = t.vertex.0 in
-    let inside = (told.sized v k.0 k.1).inside in
-    let here : In (row_of v k.0) (setting_row v (setting rs v)) = subst (λ o. In (row_of v k.0) (setting_row v o)) (sym k.1) (inl refl) in
-    let row : In (row_of v k.0) (standing g rs).configured = in_flat_map (λ w. setting_row w (setting rs w)) v (row_of v k.0) (numbers_from 0 (length g.vertices)) (below-in (length g.vertices) v inside) here in
+    let row = row_there g rs v k.0 (told.sized v k.0 k.1).inside k.1 in
     ap (λ o. option_map_or (λ x. nat_lt t.index x.tasks) o false) (found_there (standing g rs).configured (row_of v k.0) (once (setting rs) 0 (length g.vertices)) row) ∙ low t.index k.0.tasks k.2
   where
     low : (a b : ℕ) → a < b → nat_lt a b ≡ true

@@ -1,8 +1,11 @@
 pub mod Beginning
+pub mod Recorded
 pub mod Steps
 pub mod Entries
+pub mod Done
 pub mod Going
 pub mod GoingLaw
 pub mod Lasting
 pub mod Records
 pub mod Legal
+pub mod Whole

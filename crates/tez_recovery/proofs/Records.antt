@@ -18,7 +18,7 @@ use Rattle.tez_plan.specs.Ranges.{IsInRanges}
 use Rattle.tez_plan.specs.declared.parts.EdgeSpec.{EdgeSpec}
 use Rattle.tez_plan.proofs.CheckLemmas.{valid_parts}
 use Rattle.tez_events.specs.declared.JournalRecord.{JournalRecord}
-use Rattle.tez_events.specs.declared.JournalRecord.TheVariants.{Submitted, Opened, Configured, TaskSucceeded, AttemptFailed, CommitStarted, Finished}
+use Rattle.tez_events.specs.declared.JournalRecord.TheVariants.{Submitted, Opened, Configured, TaskSucceeded, AttemptFailed, CommitStarted, Finished, Version, SinkPublished}
 use Rattle.tez_standing.specs.declared.state.Setting.{Setting}
 use Rattle.tez_standing.specs.Standing.{latest, sets, wins, fails, setting, winner, failures, feeder, has_source, fits_vertex, fits_feeder, takes_parts, is_present, is_open, known, may_follow, IsLegal, IsLegalTo}
 use Rattle.tez_laws.proofs.Same.{same_task-true}
@@ -29,7 +29,7 @@ use Rattle.tez_recovery.specs.Laws.{IsSizedFor}
 
 -- ---- one record more
 
-latest_more : {X : Type 0} (tells : JournalRecord → Option X) (rs : List JournalRecord) (r : JournalRecord) → latest tells (rs ++ r ∷ []) ≡ option_or (tells r) (latest tells rs)
+pub latest_more : {X : Type 0} (tells : JournalRecord → Option X) (rs : List JournalRecord) (r : JournalRecord) → latest tells (rs ++ r ∷ []) ≡ option_or (tells r) (latest tells rs)
 latest_more {X} tells [] r = by (tells r) where
   by : (o : Option X) → o ≡ option_or o None
   by None = refl
@@ -145,7 +145,7 @@ not_set None h = refl
 not_set (Some s) h = cc
 
 -- a vertex that is set stays so
-stays_set : (g : Dag) (rs : List JournalRecord) (r : JournalRecord) (v : ℕ) (s : Setting) → may_follow g rs r ≡ true → setting rs v ≡ Some s → setting (rs ++ r ∷ []) v ≡ Some s
+pub stays_set : (g : Dag) (rs : List JournalRecord) (r : JournalRecord) (v : ℕ) (s : Setting) → may_follow g rs r ≡ true → setting rs v ≡ Some s → setting (rs ++ r ∷ []) v ≡ Some s
 stays_set g rs (Configured w tasks base) v s h e = latest_more (sets v) rs (Configured w tasks base) ∙ by (w.0 == v) refl where
   none : setting rs w.0 ≡ None
   none = not_set (setting rs w.0) (both {x = is_none (setting rs w.0)} (both {x = nat_lt w.0 (length g.vertices)} (both {x = is_open (known g rs)} h).1).1).0
@@ -159,6 +159,8 @@ stays_set g rs (TaskSucceeded a) v s h e = latest_more (sets v) rs (TaskSucceede
 stays_set g rs (AttemptFailed a) v s h e = latest_more (sets v) rs (AttemptFailed a) ∙ e
 stays_set g rs (CommitStarted sums) v s h e = latest_more (sets v) rs (CommitStarted sums) ∙ e
 stays_set g rs Finished v s h e = latest_more (sets v) rs Finished ∙ e
+stays_set g rs Version v s h e = latest_more (sets v) rs Version ∙ e
+stays_set g rs (SinkPublished w) v s h e = latest_more (sets v) rs (SinkPublished w) ∙ e
 
 set_after : (g : Dag) (rs : List JournalRecord) (r : JournalRecord) (t : TaskId) → may_follow g rs r ≡ true → IsSet rs t → IsSet (rs ++ r ∷ []) t
 set_after g rs r t h k = (k.0, stays_set g rs r t.vertex.0 k.0 h k.1, k.2)
@@ -198,6 +200,8 @@ next_sized g rs (TaskSucceeded a) valid ranges h told v s e = same_sized g rs (T
 next_sized g rs (AttemptFailed a) valid ranges h told v s e = same_sized g rs (AttemptFailed a) (λ u. refl) told v s e
 next_sized g rs (CommitStarted sums) valid ranges h told v s e = same_sized g rs (CommitStarted sums) (λ u. refl) told v s e
 next_sized g rs Finished valid ranges h told v s e = same_sized g rs Finished (λ u. refl) told v s e
+next_sized g rs Version valid ranges h told v s e = same_sized g rs Version (λ u. refl) told v s e
+next_sized g rs (SinkPublished w) valid ranges h told v s e = same_sized g rs (SinkPublished w) (λ u. refl) told v s e
 
 abbrev Won : List JournalRecord → TaskId → AttemptId → Type 0
 Won rs t a = (a.task ≡ t) × IsSet rs t
@@ -223,6 +227,8 @@ next_won g rs (Configured w tasks base) h told t a e = same_won g rs (Configured
 next_won g rs (AttemptFailed b) h told t a e = same_won g rs (AttemptFailed b) (λ u. refl) h told t a e
 next_won g rs (CommitStarted sums) h told t a e = same_won g rs (CommitStarted sums) (λ u. refl) h told t a e
 next_won g rs Finished h told t a e = same_won g rs Finished (λ u. refl) h told t a e
+next_won g rs Version h told t a e = same_won g rs Version (λ u. refl) h told t a e
+next_won g rs (SinkPublished w) h told t a e = same_won g rs (SinkPublished w) (λ u. refl) h told t a e
 
 same_failed : (g : Dag) (rs : List JournalRecord) (r : JournalRecord) → ((t : TaskId) → fails t r ≡ false) → may_follow g rs r ≡ true → IsTold g rs → (t : TaskId) → 1 ≤ failures (rs ++ r ∷ []) t → IsSet (rs ++ r ∷ []) t
 same_failed g rs r none h told t some =
@@ -242,25 +248,42 @@ next_failed g rs (Configured w tasks base) h told t some = same_failed g rs (Con
 next_failed g rs (TaskSucceeded b) h told t some = same_failed g rs (TaskSucceeded b) (λ u. refl) h told t some
 next_failed g rs (CommitStarted sums) h told t some = same_failed g rs (CommitStarted sums) (λ u. refl) h told t some
 next_failed g rs Finished h told t some = same_failed g rs Finished (λ u. refl) h told t some
+next_failed g rs Version h told t some = same_failed g rs Version (λ u. refl) h told t some
+next_failed g rs (SinkPublished w) h told t some = same_failed g rs (SinkPublished w) (λ u. refl) h told t some
 
 -- ---- all records
 
 none_told : (g : Dag) → IsTold g []
 none_told g = record { sized = λ v s e. cc; won = λ t a e. cc; failed = λ t some. absurd (omega (arith, some)) }
 
-told_to : (g : Dag) (rs : List JournalRecord) (n : ℕ) → IsValid g → IsInRanges g → n ≤ length rs → IsLegalTo g rs n → IsTold g (take n rs)
-told_to g rs zero valid ranges h legal = none_told g
-told_to g rs (suc n) valid ranges h legal =
+-- what holds before the first record, and of each record more that may follow, holds of all
+to_each : (g : Dag) (P : List JournalRecord → Type 0) (rs : List JournalRecord) (n : ℕ) → P []
+    → ((qs : List JournalRecord) (r : JournalRecord) → may_follow g qs r ≡ true → P qs → P (qs ++ r ∷ []))
+    → n ≤ length rs → IsLegalTo g rs n → P (take n rs)
+to_each g P rs zero none more low legal = none
+to_each g P rs (suc n) none more low legal =
     let r = get_or rs n Finished in
     let at : slice_get rs n ≡ Some r = slice_get-get_or rs n Finished (omega arith) in
-    let before = told_to g rs n valid ranges (omega arith) (λ k q b. legal k q (omega arith)) in
-    let may = legal n r (omega arith) at in
-    let more : take (suc n) rs ≡ take n rs ++ r ∷ [] = ap (λ m. take m rs) (sym (add-one n)) ∙ take_more rs n Finished (omega arith) in
-    subst (IsTold g) (sym more) (record { sized = next_sized g (take n rs) r valid ranges may before; won = next_won g (take n rs) r may before; failed = next_failed g (take n rs) r may before })
+    let before = to_each g P rs n none more (omega arith) (λ k q b. legal k q (omega arith)) in
+    let grown : take (suc n) rs ≡ take n rs ++ r ∷ [] =
+    ap (λ m. take m rs) (sym (add-one n)) ∙ take_more rs n Finished (omega arith) in
+    subst P (sym grown) (more (take n rs) r (legal n r (omega arith) at) before)
 
 take_all : {X : Type 0} (xs : List X) → take (length xs) xs ≡ xs
 take_all [] = refl
 take_all (x ∷ xs) = ap (λ ys. x ∷ ys) (take_all xs)
 
+pub by_records : (g : Dag) (P : List JournalRecord → Type 0) (rs : List JournalRecord) → P []
+    → ((qs : List JournalRecord) (r : JournalRecord) → may_follow g qs r ≡ true → P qs → P (qs ++ r ∷ []))
+    → IsLegal g rs → P rs
+by_records g P rs none more legal = subst P (take_all rs) (to_each g P rs (length rs) none more (omega arith) legal)
+
 pub are_told : (g : Dag) (rs : List JournalRecord) → IsValid g → IsInRanges g → IsLegal g rs → IsTold g rs
-are_told g rs valid ranges legal = subst (IsTold g) (take_all rs) (told_to g rs (length rs) valid ranges (omega arith) legal)
+are_told g rs valid ranges legal =
+    by_records g (IsTold g) rs (none_told g)
+    (λ qs r may told. record {
+      sized = next_sized g qs r valid ranges may told;
+      won = next_won g qs r may told;
+      failed = next_failed g qs r may told;
+    })
+    legal

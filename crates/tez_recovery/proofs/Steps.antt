@@ -20,7 +20,7 @@ use Rattle.tez_conf.specs.declared.values.ConfValues.{ConfValues}
 use Rattle.tez_vman.specs.declared.seen.Config.{Config}
 use Rattle.tez_vman.specs.Rules.{config as shape}
 use Rattle.tez_events.specs.declared.Entry.TheVariants.{Carried, Kept}
-use Rattle.tez_history.specs.History.{Past, Location, kept_there, epoch, config, winner, location, is_up, is_committing, is_finished}
+use Rattle.tez_history.specs.History.{Past, Location, kept_there, config, winner, location}
 use Rattle.tez_history.specs.Derived.{is_task as is_task_at, is_configured, task_count, shape_of}
 use Rattle.tez_history.specs.Follows.{IsMade, MayFollow}
 use Rattle.tez_laws.proofs.Same.{same_attempt-refl}
@@ -49,7 +49,8 @@ use Rattle.tez_schedule_view.proofs.Staying.{silent_view}
 use Rattle.tez_master_model.specs.State.{MasterState}
 use Rattle.tez_master_view.specs.View.{master_view, location_view, slot_by}
 use Rattle.tez_master_view.proofs.Parts.{same_parts}
-use Rattle.tez_master_view.proofs.Own.{published_view, location_set}
+use Rattle.tez_master_view.proofs.Own.{location_set}
+use Rattle.tez_master_view.proofs.Simple.{rest}
 use Rattle.tez_master_view.proofs.Configure.{links_set}
 use Rattle.tez_master_model.specs.Recovery.{KeptState, config_in, slot_kept, stood, carried, kept, CanStand, CanBeCarried, CanBeKept, IsNew}
 use Rattle.tez_recovery.specs.Laws.{IsSizedFor, stands_entry, carried_entry, kept_entry}
@@ -62,7 +63,7 @@ with_vertices m vs = record m { vertices = vs }
 pub stood_step : (g : Dag) (c : ConfValues) (p : Past) (vs : List Vertex) (x : VertexId × ℕ × ℕ) → IsMade g c p → MayFollow g c p (stands_entry x) → FitsPlan g (stands_entry x ∷ p)
     → stood (with_vertices (master_view g c p) vs) x ≡ with_vertices (master_view g c (stands_entry x ∷ p)) (configure_one vs (x.0.0, config_in x))
 stood_step g c p vs x m may fits =
-    same_parts g c (epoch p) (published_view g p) (is_committing p) (is_finished p) (is_up p) refl refl
+    same_parts g c (rest g p) refl refl
     (ap (after_set_edges (router_view g p)) (links_set g p x.0 (config_in x)) ∙ (stands_again g c p x.0 x.1 x.2 m may fits).1)
     (stands_view g c p x.0 x.1 x.2 (may, m) fits) refl refl
 
@@ -132,7 +133,7 @@ can_stand g c p vs x ranges m may fits some sized =
 pub carried_step : (g : Dag) (c : ConfValues) (p : Past) (vs : List Vertex) (x : TaskId × ℕ)
     → carried (with_vertices (master_view g c p) vs) x ≡ with_vertices (master_view g c (carried_entry x ∷ p)) (carry_one vs x)
 carried_step g c p vs x =
-    same_parts g c (epoch p) (published_view g p) (is_committing p) (is_finished p) (is_up p) refl refl refl (sym (silent_view g c p (Carried x.0 x.1) tt)) refl refl
+    same_parts g c (rest g p) refl refl refl (sym (silent_view g c p (Carried x.0 x.1) tt)) refl refl
 
 -- a task that is there may be restored
 abbrev AtTask : List Vertex → TaskId → (TaskState → Type 0) → Type 0
@@ -177,7 +178,7 @@ pub kept_step : (g : Dag) (c : ConfValues) (p : Past) (vs : List Vertex) (k : Ke
     → kept (with_vertices (master_view g c p) vs) k ≡ with_vertices (master_view g c (kept_entry k ∷ p)) (keep_one vs k.attempt)
 kept_step g c p vs k m fits may tells locations =
     let a = k.attempt in
-    same_parts g c (epoch p) (published_view g p) (is_committing p) (is_finished p) (is_up p) refl refl (kept_announces g c p a m may) (kept_view g c p a k.made m fits may tells)
+    same_parts g c (rest g p) refl refl (kept_announces g c p a m may) (kept_view g c p a k.made m fits may tells)
     (location_set g c p (Kept a ∷ p) a.task (slot_kept k) (vertex_below g a.task.vertex.0 (task_vertex g c p m a.task may.1)) (λ u. kept_location c p a (slot_kept k) u locations)) refl
 
 task_told : (o : Option Config) (n i : ℕ) → is_some o ≡ true → nat_lt i (unwrap_or o (shape n 1)).tasks ≡ true → nat_lt i (tasks_by o) ≡ true

@@ -10,24 +10,27 @@
 --     IsRightFor g s              a standing that the plan can have
 --     HaveFailed c s              no task has failed as often as it may
 --     IsGoingOn g c past s ks     what is kept is what the history says of winners of the standing
---     IsFoundAt g c past s ks     so it is where the job goes on; from a commit that was begun no master goes on
-use Rattle.std.specs.Prelude.{◌≡◌, ◌≢◌, ℕ, suc, max, ◌<◌, ◌≤◌, ⊤, nat_lt, Bool, true, false, List, [], ◌∷◌, ◌++◌, map, length, None}
+--     IsWholeOf g s ks            each vertex stands, and each of its tasks is kept
+--     IsTakenUp g c past s ks n   so is what is kept of a commit that has started, with n sinks recorded
+--     IsFoundAt g c past s ks     so it is where the job goes on, and where a commit has started all is kept
+use Rattle.std.specs.Prelude.{◌≡◌, ◌≢◌, ℕ, suc, max, ◌<◌, ◌≤◌, ⊤, ◌==◌, nat_lt, if◌then◌else◌, Bool, true, false, List, [], ◌∷◌, ◌++◌, map, length, None}
 use Rattle.std.specs.Option.{option_map_or}
 use Rattle.tez_ids.specs.declared.VertexId.{VertexId}
 use Rattle.tez_ids.specs.declared.TaskId.{TaskId}
 use Rattle.tez_ids.specs.declared.AttemptId.{AttemptId}
+use Rattle.tez_ids.specs.Same.{task}
 use Rattle.tez_lists.specs.Numbers.{In}
 use Rattle.tez_plan.specs.Dag.{Dag, tasks_of as planned}
 use Rattle.tez_conf.specs.declared.values.ConfValues.{ConfValues}
 use Rattle.tez_events.specs.declared.Entry.{Entry}
-use Rattle.tez_events.specs.declared.Entry.TheVariants.{Opened, Over, Stands, Carried, Kept}
+use Rattle.tez_events.specs.declared.Entry.TheVariants.{Opened, Over, Stands, Carried, Kept, Committing}
 use Rattle.tez_events.specs.declared.Entry.TheVariants.{CommitStarted as CommitBegun}
 use Rattle.tez_standing.specs.declared.state.Phase.{Phase}
 use Rattle.tez_standing.specs.declared.state.Phase.TheVariants.{Running, CommitStarted, Finished}
 use Rattle.tez_standing.specs.declared.state.Standing.{Standing}
 use Rattle.tez_history.specs.Shape.{vertices}
-use Rattle.tez_history.specs.History.{Past, epoch, location, is_readied, is_published}
-use Rattle.tez_history.specs.Runs.{Found, Unfinished, AllDone, Begun, opened_by}
+use Rattle.tez_history.specs.History.{Past, epoch, location, is_readied, was_asked, recorded}
+use Rattle.tez_history.specs.Runs.{Found, Unfinished, AllDone, Committed, Begun, opened_by}
 use Rattle.tez_history.specs.Runs.{Standing as Ground}
 use Rattle.tez_progress.specs.Laws.{Fits, found_at, found_configs}
 use Rattle.tez_pool_view.specs.View.{pool_view}
@@ -37,13 +40,14 @@ use Rattle.tez_master_model.specs.Fresh.{fresh}
 use Rattle.tez_master_view.specs.View.{slot_by}
 use Rattle.tez_master_model.specs.Recovery.{KeptState, slot_kept, found}
 
--- no sink counts as readied or published
+-- no sink counts as readied, asked of or recorded
 abbrev pub knowing_no_sink : MasterState → MasterState
-knowing_no_sink m = record m { readied = map (λ b. false) m.readied; published = map (λ b. false) m.published }
+knowing_no_sink m = record m { readied = map (λ b. false) m.readied; asked = map (λ b. false) m.asked; recorded = 0 }
 
 abbrev pub has_committed : Past → Bool
 has_committed [] = false
 has_committed (CommitBegun ∷ past) = true
+has_committed (Committing n ∷ past) = true
 has_committed (_ ∷ past) = has_committed past
 
 -- ---- what it finds, and the history once it has begun
@@ -51,18 +55,22 @@ has_committed (_ ∷ past) = has_committed past
 abbrev pub as_ground : Standing → List KeptState → Ground
 as_ground s ks = record { epoch = s.epoch; configured = found_configs s.configured; failed = s.failures; kept = map (λ k. k.attempt) ks }
 
-abbrev pub found_in : Phase → Ground → Found
-found_in Running x = Unfinished x
-found_in (CommitStarted sums) x = Begun
-found_in (Finished sums) x = AllDone
+-- a journal of the first version does not tell which sinks are published: from its commit no master goes on
+abbrev pub committed_in : ℕ → Ground → ℕ → Found
+committed_in version x n = if version == 2 then Committed x n else Begun
+
+abbrev pub found_in : Phase → ℕ → Ground → Found
+found_in Running version x = Unfinished x
+found_in (CommitStarted sums n) version x = committed_in version x n
+found_in (Finished sums) version x = AllDone
 
 abbrev pub as_found : Standing → List KeptState → Found
-as_found s ks = found_in s.phase (as_ground s ks)
+as_found s ks = found_in s.phase s.version (as_ground s ks)
 
 -- its epoch is above the last one that is found, and above each before
 abbrev pub open_in : Phase → ℕ → Past → Entry
 open_in Running last past = Opened (record { 0 = suc (max last (epoch past)) })
-open_in (CommitStarted sums) last past = Opened (record { 0 = suc (max last (epoch past)) })
+open_in (CommitStarted sums n) last past = Opened (record { 0 = suc (max last (epoch past)) })
 open_in (Finished sums) last past = Over
 
 abbrev pub open_of : Standing → Past → Entry
@@ -86,7 +94,7 @@ found_entries s ks = map stands_entry s.configured ++ (map carried_entry s.failu
 
 abbrev pub entries_in : Phase → Standing → List KeptState → List Entry
 entries_in Running s ks = found_entries s ks
-entries_in (CommitStarted sums) s ks = []
+entries_in (CommitStarted sums n) s ks = found_entries s ks ++ Committing n ∷ []
 entries_in (Finished sums) s ks = []
 
 abbrev pub start_entries : Standing → Past → List KeptState → List Entry
@@ -98,7 +106,8 @@ abbrev pub begun_by : Dag → ConfValues → Past → Past → MasterState
 begun_by g c past first =
     record (fresh g c (epoch first) (pool_view c past)) {
       readied = map (λ v. is_readied v first) (vertices g);
-      published = map (λ v. is_published v first) (vertices g);
+      asked = map (λ v. was_asked v first) (vertices g);
+      recorded = recorded first;
     }
 
 abbrev pub begun : Dag → ConfValues → Past → Standing → MasterState
@@ -148,9 +157,23 @@ pub record IsGoingOn (g : Dag) (c : ConfValues) (past : Past) (s : Standing) (ks
   pub winners : (k : KeptState) → In k ks → In k.attempt s.winners
   pub kept : (k : KeptState) → In k ks → IsKeptAt g c past k
 
+-- winners of all tasks of a vertex that has so many
+abbrev pub AreKeptAt : ℕ → ℕ → List KeptState → Type 0
+AreKeptAt v tasks ks = (i : ℕ) → i < tasks → (k : KeptState) × In k ks × (k.attempt.task ≡ task v i)
+
+abbrev pub IsWholeOf : Dag → Standing → List KeptState → Type 0
+IsWholeOf g s ks =
+    (v : ℕ) → v < length g.vertices → (x : VertexId × ℕ × ℕ) × In x s.configured × (x.0.0 ≡ v) × AreKeptAt v x.1 ks
+
+pub record IsTakenUp (g : Dag) (c : ConfValues) (past : Past) (s : Standing) (ks : List KeptState) (n : ℕ) : Type 0 where
+  pub version : s.version ≡ 2
+  pub going : IsGoingOn g c past s ks
+  pub whole : IsWholeOf g s ks
+  pub few : recorded past ≤ n
+
 abbrev pub IsFoundIn : Phase → Dag → ConfValues → Past → Standing → List KeptState → Type 0
 IsFoundIn Running g c past s ks = IsGoingOn g c past s ks
-IsFoundIn (CommitStarted sums) g c past s ks = ⊥
+IsFoundIn (CommitStarted sums n) g c past s ks = IsTakenUp g c past s ks n
 IsFoundIn (Finished sums) g c past s ks = ⊤
 
 abbrev pub IsFoundAt : Dag → ConfValues → Past → Standing → List KeptState → Type 0

@@ -1,5 +1,9 @@
 -- What the laws say of a new master.
-use Rattle.std.specs.Prelude.{◌≡◌, ◌↔◌, ◌∷◌, ℕ, suc, max, List, true, false, IsTrue, None}
+use Rattle.std.specs.Prelude.{◌≡◌, ◌↔◌, ◌<◌, ◌∷◌, ℕ, suc, max, List, length, true, false, IsTrue, None}
+use Rattle.tez_ids.specs.declared.VertexId.{VertexId}
+use Rattle.tez_ids.specs.declared.AttemptId.{AttemptId}
+use Rattle.tez_ids.specs.Same.{task}
+use Rattle.tez_lists.specs.Numbers.{In}
 use Rattle.tez_plan.specs.Dag.{Dag}
 use Rattle.tez_plan.specs.Faults.{IsValid}
 use Rattle.tez_plan.specs.Ranges.{IsInRanges}
@@ -7,14 +11,15 @@ use Rattle.tez_conf.specs.declared.values.ConfValues.{ConfValues}
 use Rattle.tez_events.specs.declared.StopCause.{StopCause}
 use Rattle.tez_events.specs.declared.JournalRecord.{JournalRecord}
 use Rattle.tez_events.specs.declared.Entry.TheVariants.{Stopped}
-use Rattle.tez_standing.specs.declared.state.Phase.TheVariants.{Running, Finished}
+use Rattle.tez_standing.specs.declared.state.Phase.TheVariants.{Running, CommitStarted, Finished}
 use Rattle.tez_standing.specs.declared.state.Standing.{Standing}
-use Rattle.tez_standing.specs.Standing.{IsLegal, standing}
-use Rattle.tez_history.specs.History.{Past, extend, epoch, is_up, is_published}
+use Rattle.tez_standing.specs.Standing.{IsLegal, is_running, standing}
+use Rattle.tez_history.specs.History.{Past, extend, epoch, is_up, recorded}
 use Rattle.tez_history.specs.Rules.{is_at_start}
 use Rattle.tez_history.specs.Follows.{IsMade}
 use Rattle.tez_history.specs.Runs.{Run, spent_in, opened_by}
 use Rattle.tez_pool_view.specs.View.{pool_view}
+use Rattle.tez_master_model.specs.State.{MasterState}
 use Rattle.tez_master_model.specs.Fresh.{fresh as fresh_master}
 use Rattle.tez_master_model.specs.Recovery.{KeptState, found, CanBeFound}
 use Rattle.tez_master_view.specs.View.{master_view}
@@ -27,14 +32,23 @@ use Rattle.tez_recovery.specs.Laws.{knowing_no_sink, has_committed, as_found, op
 abbrev pub OpensAsHistory : Dag → ConfValues → Past → Standing → Type 0
 OpensAsHistory g c past s = IsTrue (is_at_start past) → s.phase ≡ Running → begun g c past s ≡ master_view g c (open_of s past ∷ past)
 
--- it is fresh where no sink was published before
+abbrev pub fresh_at : Dag → ConfValues → Past → Standing → MasterState
+fresh_at g c past s = fresh_master g c (suc (max s.epoch (epoch past))) (pool_view c past)
+
+-- it is fresh where no sink was recorded before
 abbrev pub OpensFresh : Dag → ConfValues → Past → Standing → Type 0
 OpensFresh g c past s =
-    s.phase ≡ Running → ((v : ℕ) → is_published v past ≡ false) → begun g c past s ≡ fresh_master g c (suc (max s.epoch (epoch past))) (pool_view c past)
+    s.phase ≡ Running → recorded past ≡ 0 → begun g c past s ≡ fresh_at g c past s
 
--- no sink is published before a commit has started
-abbrev pub PublishesNone : Dag → ConfValues → Past → ℕ → Type 0
-PublishesNone g c past v = IsMade g c past → has_committed past ≡ false → is_published v past ≡ false
+-- and where a commit has started it makes of what it finds what a fresh master does, which can find it where it can
+abbrev pub TakesUpFresh : Dag → ConfValues → Past → Standing → Type 0
+TakesUpFresh g c past s =
+    (ks : List KeptState) (sums : List (ℕ × ℕ)) (n : ℕ) → s.phase ≡ CommitStarted sums n
+    → (new_master g c past s ks ≡ found (fresh_at g c past s) s ks) × (CanBeFound (begun g c past s) s ks → CanBeFound (fresh_at g c past s) s ks)
+
+-- no sink is recorded before a commit has started
+abbrev pub RecordsNone : Dag → ConfValues → Past → Type 0
+RecordsNone g c past = IsMade g c past → has_committed past ≡ false → recorded past ≡ 0
 
 -- where the job is over it is as the history says, but for what that tells of the sinks
 abbrev pub IsOverAtOnce : Dag → ConfValues → Past → Type 0
@@ -84,3 +98,15 @@ GoesByStart g c past s = (ks : List KeptState) → Goes g c past → IsTrue (is_
 
 abbrev pub IsRightByRecords : Dag → List JournalRecord → Type 0
 IsRightByRecords g rs = IsValid g → IsInRanges g → IsLegal g rs → IsRightFor g (standing g rs)
+
+-- once the commit has started, each vertex of the plan stands, and each of its tasks has a winner
+abbrev pub AreWonAt : ℕ → ℕ → List AttemptId → Type 0
+AreWonAt v tasks ws = (i : ℕ) → i < tasks → (a : AttemptId) × In a ws × (a.task ≡ task v i)
+
+abbrev pub IsWholeByPhase : Dag → Standing → Type 0
+IsWholeByPhase g s =
+    is_running s.phase ≡ false → (v : ℕ) → v < length g.vertices
+    → (x : VertexId × ℕ × ℕ) × In x s.configured × (x.0.0 ≡ v) × AreWonAt v x.1 s.winners
+
+abbrev pub IsWholeByRecords : Dag → List JournalRecord → Type 0
+IsWholeByRecords g rs = IsValid g → IsInRanges g → IsLegal g rs → IsWholeByPhase g (standing g rs)
