@@ -1,9 +1,10 @@
 -- The first of numbers that passes a test, and tests of some element.
-use Rattle.std.specs.Prelude.{◌≡◌, ℕ, zero, suc, ◌+◌, ◌<◌, ◌≤◌, ◌==◌, ◌&&◌, ◌||◌, ◌++◌, Bool, true, false, not, if◌then◌else◌, List, [], ◌∷◌, map, take, drop, length, slice_get, slice_set, Some, None, is_none, refl}
+use Rattle.std.specs.Prelude.{◌≡◌, ℕ, zero, suc, ◌+◌, ◌<◌, ◌≤◌, ◌==◌, ◌&&◌, ◌||◌, ◌++◌, Bool, true, false, not, if◌then◌else◌, List, [], ◌∷◌, map, take, drop, length, slice_get, slice_set, Option, Some, None, is_none, is_some, refl}
 use Rattle.std.specs.List.{find, filter, list_any, list_all}
-use Rattle.std.specs.Option.{option_map_or}
+use Rattle.std.specs.Option.{option_map, option_map_or}
 use Rattle.std.proofs.Common.{ap, sym, ◌∙◌, arith, get_or, add-zero, zero-add}
 use Rattle.tez_lists.specs.Numbers.{numbers_from}
+use Rattle.tez_ids.specs.declared.VertexId.{VertexId}
 use Rattle.tez_history.specs.Steps.{is_first_without}
 
 -- ---- the first number
@@ -55,6 +56,13 @@ all_by has (w ∷ ws) = by (has w) (all_by has ws) where
   by : (b : Bool) → list_all has ws ≡ is_none (find (λ u. not (has u)) ws) → (b && list_all has ws) ≡ is_none (if not b then Some w else find (λ u. not (has u)) ws)
   by true rest = rest
   by false rest = refl
+
+-- a number is there exactly where its vertex is
+pub none_mapped : (o : Option VertexId) (r : Bool) → not r ≡ is_some o → r ≡ is_none (option_map (λ v. v.0) o)
+none_mapped None true e = refl
+none_mapped None false e = cc
+none_mapped (Some v) true e = cc
+none_mapped (Some v) false e = refl
 
 -- ---- some element has a number
 

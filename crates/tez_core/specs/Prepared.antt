@@ -6,7 +6,6 @@ use Rattle.std.specs.Prelude.{◌≡◌, ℕ, List, Option, slice_get, option_an
 use Rattle.std.specs.Option.{option_map}
 use Rattle.tez_ids.specs.declared.AttemptId.{AttemptId}
 use Rattle.tez_ids.specs.declared.VertexId.{VertexId}
-use Rattle.tez_vman.specs.declared.seen.Config.{Config}
 use Rattle.tez_task.specs.TaskState.{TaskState}
 use Rattle.tez_vertex.specs.Table.{new_tasks}
 use Rattle.tez_vertex.specs.Vertex.{Vertex}

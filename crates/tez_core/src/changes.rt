@@ -1,12 +1,12 @@
 //! What each event makes of the parts.
-ghost use Rattle.std.specs.Prelude.{◌≡◌, ◌<◌, ◌+◌, ◌^◌, true, length, slice_get, IfSome, None};
+ghost use Rattle.std.specs.Prelude.{◌≡◌, ◌<◌, ◌+◌, ◌^◌, true, false, length, slice_get, is_some, IfSome, None};
 ghost use Rattle.tez_ids.specs.declared.VertexId.{VertexId};
 ghost use Rattle.tez_events.specs.declared.CoreEvent.{CoreEvent};
 ghost use Rattle.tez_task.specs.TaskState.{HasRoom};
 ghost use Rattle.tez_task.specs.declared.TaskEvent.{TaskEvent};
 ghost use Rattle.tez_schedule.specs.Table.{is_task};
-ghost use Rattle.tez_master_model.specs.Read.{task_in, source_in};
-ghost use Rattle.tez_master_model.specs.Settled.{settled, killed, without_node, withdrawn, unreadied, with_location, released, after_fetch, after_done, slot_in};
+ghost use Rattle.tez_master_model.specs.Read.{task_in, source_in, next_sink, is_next};
+ghost use Rattle.tez_master_model.specs.Settled.{settled, killed, without_node, withdrawn, unreadied, with_location, released, after_fetch, after_done, after_asked, one_recorded, slot_in};
 
 use crate::flags::{clear_all, set_flag};
 use crate::locations::{drop_slot, set_location};
@@ -165,11 +165,43 @@ impl Core {
         self.committing = true;
     }
 
-    /// The text of a sink is published.
+    /// The store was asked of the sink that is recorded next. Where its text is there already the sink
+    /// is recorded, else it is to be published.
+    #[tactic(auto, using(crate::proofs::NextSink::next_there))]
+    pub fn asked(&mut self, v: VertexId, there: bool)
+        requires next { is_next self.old v.0 ≡ true }
+        ensures { self.new ≡ after_asked self.old v.0 there }
+    {
+        if there {
+            self.record_next();
+        } else {
+            self.not_there(v);
+        }
+    }
+
+    fn not_there(&mut self, v: VertexId)
+        ensures { self.new ≡ after_asked self.old v.0 false }
+    {
+        set_flag(&mut self.asked, v);
+    }
+
+    /// The text of a sink is published, and the sink is recorded.
+    #[tactic(auto, using(crate::proofs::NextSink::next_there))]
     pub fn publish(&mut self, v: VertexId)
+        requires next { is_next self.old v.0 ≡ true }
         ensures { self.new ≡ settled self.old (CoreEvent.Publish v) }
     {
-        set_flag(&mut self.published, v);
+        self.record_next();
+    }
+
+    // A plan has at most 64 sinks.
+    #[tactic(auto, using(crate::proofs::NextSink::few_recorded))]
+    fn record_next(&mut self)
+        requires { is_some (next_sink self.old) ≡ true }
+        ensures { self.new ≡ one_recorded self.old }
+    {
+        let _few = self.vertices();
+        self.recorded += 1;
     }
 
     /// The job finishes.

@@ -9,13 +9,13 @@ ghost use Rattle.tez_pool.specs.Index.{held_at};
 ghost use Rattle.tez_pool.specs.Victim.{AreIn, IsGreatest, candidates};
 ghost use Rattle.tez_schedule.specs.Table.{next_configure};
 ghost use Rattle.tez_master_model.specs.Read.{is_on_slot};
-ghost use Rattle.tez_master_model.specs.Choice.{first_without, ready_choice, commit_choice, publish_choice, finish_choice};
-ghost use Rattle.tez_core.specs.Choosing.{queued_one, queued_at, count_at, work_choice, end_choice, lost_at};
+ghost use Rattle.tez_master_model.specs.Choice.{sink_to_ready, ready_choice, commit_choice, ask_choice, publish_choice, finish_choice};
+ghost use Rattle.tez_core.specs.Choosing.{queued_one, queued_at, count_at, work_choice, found_to_ready, end_choice, lost_at};
 
 use crate::depths;
 use crate::parts::Core;
 use crate::reads::is_in_queue;
-use crate::sinks::{first_open, has_edge_out};
+use crate::sinks::{first_open, flag, has_edge_out};
 use crate::tasks::vertex_of;
 use tez_events::CoreEvent;
 use tez_ids::{AttemptId, TaskId, VertexId};
@@ -167,7 +167,8 @@ impl Core {
     }
 
     /// The first sink to put aside once all is done, else the commit where all of them are, else the
-    /// first sink to publish, else the end of the job. Takes time in the vertices.
+    /// sink of which the store is to be asked, else the one to publish, else the end of the job. Takes
+    /// time in the vertices.
     pub fn end_choice(&self) -> Option<CoreEvent>
         ensures { result ≡ end_choice self.now }
     {
@@ -175,6 +176,9 @@ impl Core {
             return Some(e);
         }
         if let Some(e) = self.commit_choice() {
+            return Some(e);
+        }
+        if let Some(e) = self.ask_choice() {
             return Some(e);
         }
         match self.publish_choice() {
@@ -186,12 +190,34 @@ impl Core {
     fn ready_choice(&self) -> Option<CoreEvent>
         ensures { result ≡ ready_choice self.now }
     {
-        if !self.are_done() || self.committing {
+        if !self.are_done() {
             return None;
         }
-        match first_open(&self.plan, &self.readied) {
+        match self.sink_to_ready() {
             Some(v) => Some(CoreEvent::Ready(v)),
             None => None,
+        }
+    }
+
+    fn sink_to_ready(&self) -> Option<VertexId>
+        ensures { option_map (λ v. v.0) result ≡ sink_to_ready self.now }
+    {
+        if self.found {
+            return self.found_to_ready();
+        }
+        if self.committing {
+            return None;
+        }
+        first_open(&self.plan, &self.readied)
+    }
+
+    // In a commit that an earlier master started.
+    fn found_to_ready(&self) -> Option<VertexId>
+        ensures { option_map (λ v. v.0) result ≡ found_to_ready self.now }
+    {
+        match self.next_sink() {
+            Some(v) if flag(&self.asked, v) && !flag(&self.readied, v) => Some(v),
+            _ => None,
         }
     }
 
@@ -205,22 +231,34 @@ impl Core {
         }
     }
 
+    fn ask_choice(&self) -> Option<CoreEvent>
+        ensures { result ≡ ask_choice self.now }
+    {
+        if !self.found {
+            return None;
+        }
+        match self.next_sink() {
+            Some(v) if !flag(&self.asked, v) => Some(CoreEvent::Ask(v)),
+            _ => None,
+        }
+    }
+
     fn publish_choice(&self) -> Option<CoreEvent>
         ensures { result ≡ publish_choice self.now }
     {
         if !self.committing {
             return None;
         }
-        match first_open(&self.plan, &self.published) {
-            Some(v) => Some(CoreEvent::Publish(v)),
-            None => None,
+        match self.next_sink() {
+            Some(v) if self.is_put_aside(v) => Some(CoreEvent::Publish(v)),
+            _ => None,
         }
     }
 
     fn finish_choice(&self) -> Option<CoreEvent>
         ensures { result ≡ finish_choice self.now }
     {
-        if self.committing && self.are_all_published() {
+        if self.committing && self.are_all_recorded() {
             Some(CoreEvent::Finish)
         } else {
             None

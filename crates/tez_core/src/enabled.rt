@@ -1,9 +1,11 @@
 //! Which events may come, and why another one may not.
-ghost use Rattle.std.specs.Prelude.{◌≡◌};
+ghost use Rattle.std.specs.Prelude.{◌≡◌, ◌||◌, not};
 ghost use Rattle.tez_events.specs.declared.CoreEvent.{CoreEvent};
-ghost use Rattle.tez_master_model.specs.Enabled.{enabled_in, is_lost, or_not_enabled, why_not};
+ghost use Rattle.tez_master_model.specs.Read.{flag};
+ghost use Rattle.tez_master_model.specs.Enabled.{enabled_in, is_lost, may_ask, may_ready_in, may_publish_in, or_not_enabled, why_not};
 
 use crate::parts::Core;
+use crate::sinks::flag;
 use tez_events::CoreEvent;
 use tez_ids::{AttemptId, EdgeId, TaskId, VertexId};
 use tez_master_model::Why;
@@ -94,11 +96,31 @@ impl Core {
         }
     }
 
-    /// Whether the text of a sink may be put aside: all is done, and it is the first that is not.
+    /// Whether the text of a sink may be put aside: all is done, and it is the first that is not. In a
+    /// commit that an earlier master started it is the sink to be recorded next, and the store was
+    /// asked of it.
     pub fn may_ready(&self, v: VertexId) -> bool
         ensures { result ≡ enabled_in self.now (CoreEvent.Ready v) }
     {
-        self.is_running() && self.are_done() && !self.committing && self.is_first_unreadied(v)
+        self.is_running() && self.are_done() && self.is_to_ready(v)
+    }
+
+    fn is_to_ready(&self, v: VertexId) -> bool
+        ensures { result ≡ may_ready_in self.now v.0 }
+    {
+        if self.found {
+            self.is_next(v) && flag(&self.asked, v) && !flag(&self.readied, v)
+        } else {
+            !self.committing && self.is_first_unreadied(v)
+        }
+    }
+
+    /// Whether the store may be asked of a sink: it is to be recorded next in a commit that an earlier
+    /// master started, and was not asked of it.
+    pub fn may_ask(&self, v: VertexId) -> bool
+        ensures { result ≡ may_ask self.now v.0 }
+    {
+        self.is_running() && self.found && self.is_next(v) && !flag(&self.asked, v)
     }
 
     /// Whether the commit may begin: every sink's text is put aside.
@@ -108,18 +130,32 @@ impl Core {
         self.is_running() && !self.committing && self.are_all_readied()
     }
 
-    /// Whether the text of a sink may be published: it is the first that is not.
+    /// Whether the text of a sink may be published: it is the first that is not recorded. In a commit
+    /// that an earlier master started it has to be put aside first.
     pub fn may_publish(&self, v: VertexId) -> bool
         ensures { result ≡ enabled_in self.now (CoreEvent.Publish v) }
     {
-        self.is_running() && self.committing && self.is_first_unpublished(v)
+        self.is_running() && self.is_to_publish(v)
     }
 
-    /// Whether the job may finish: every sink's text is published.
+    fn is_to_publish(&self, v: VertexId) -> bool
+        ensures { result ≡ may_publish_in self.now v.0 }
+    {
+        self.committing && self.is_next(v) && self.is_put_aside(v)
+    }
+
+    // In a commit of its own a master put every sink's text aside before it began.
+    pub(crate) fn is_put_aside(&self, v: VertexId) -> bool
+        ensures { result ≡ (not self.now.found || flag self.now.readied v.0) }
+    {
+        !self.found || flag(&self.readied, v)
+    }
+
+    /// Whether the job may finish: every sink is recorded.
     pub fn may_finish(&self) -> bool
         ensures { result ≡ enabled_in self.now CoreEvent.Finish }
     {
-        self.is_running() && self.committing && self.are_all_published()
+        self.is_running() && self.committing && self.are_all_recorded()
     }
 
     /// Whether what is left over may be purged: the job is finished.
@@ -147,6 +183,7 @@ impl Core {
             CoreEvent::Restart => Why::NotEnabled,
             CoreEvent::Ready(_) => Why::NotEnabled,
             CoreEvent::CommitStart => Why::NotEnabled,
+            CoreEvent::Ask(_) => Why::NotEnabled,
             CoreEvent::Publish(_) => Why::NotEnabled,
             CoreEvent::Finish => Why::NotEnabled,
             CoreEvent::Purge => Why::NotEnabled,

@@ -26,7 +26,7 @@ struct NewParts {
     schedule: Schedule,
     locations: Vec<Locations>,
     readied: Vec<bool>,
-    published: Vec<bool>,
+    asked: Vec<bool>,
 }
 
 impl Core {
@@ -52,7 +52,7 @@ impl Core {
             schedule,
             locations,
             readied,
-            published,
+            asked,
         } = parts;
         Ok(Core {
             plan,
@@ -64,8 +64,10 @@ impl Core {
             schedule,
             locations,
             readied,
-            published,
+            asked,
+            recorded: 0,
             committing: false,
+            found: false,
             finished: false,
             up: true,
         })
@@ -85,7 +87,7 @@ fn new_parts(alloc: Global, plan: &Plan, conf: &Conf, epoch: Epoch) -> Result<Ne
     ensures schedule { IfOk result (λ x. x.schedule ≡ planned_schedule plan.now conf.now) }
     ensures locations { IfOk result (λ x. x.locations.items ≡ map no_locations plan.now.vertices) }
     ensures readied { IfOk result (λ x. x.readied.items ≡ replicate (length plan.now.vertices) false) }
-    ensures published { IfOk result (λ x. x.published.items ≡ replicate (length plan.now.vertices) false) }
+    ensures asked { IfOk result (λ x. x.asked.items ≡ replicate (length plan.now.vertices) false) }
 {
     let count = plan.vertices().len();
     Ok(NewParts {
@@ -94,7 +96,7 @@ fn new_parts(alloc: Global, plan: &Plan, conf: &Conf, epoch: Epoch) -> Result<Ne
         schedule: Schedule::new(alloc, plan, conf)?,
         locations: no_locations(alloc, plan.vertices())?,
         readied: vec![in alloc; false; count]?,
-        published: vec![in alloc; false; count]?,
+        asked: vec![in alloc; false; count]?,
     })
 }
 

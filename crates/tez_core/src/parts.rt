@@ -21,8 +21,10 @@ pub struct Core {
     pub(crate) schedule: Schedule,
     pub(crate) locations: Vec<Locations>,
     pub(crate) readied: Vec<bool>,
-    pub(crate) published: Vec<bool>,
+    pub(crate) asked: Vec<bool>,
+    pub(crate) recorded: u32,
     pub(crate) committing: bool,
+    pub(crate) found: bool,
     pub(crate) finished: bool,
     pub(crate) up: bool,
 }
@@ -32,5 +34,5 @@ impl Model for Core {
 
     ghost Value = { MasterState };
 
-    ghost view = { λ m. record { plan = m.plan; conf = m.conf; epoch = m.epoch.0; vertices = m.vertices.items; pool = m.pool; router = m.router; schedule = m.schedule; locations = m.locations.items; readied = m.readied.items; published = m.published.items; committing = m.committing; finished = m.finished; up = m.up } };
+    ghost view = { λ m. record { plan = m.plan; conf = m.conf; epoch = m.epoch.0; vertices = m.vertices.items; pool = m.pool; router = m.router; schedule = m.schedule; locations = m.locations.items; readied = m.readied.items; asked = m.asked.items; recorded = m.recorded; committing = m.committing; found = m.found; finished = m.finished; up = m.up } };
 }

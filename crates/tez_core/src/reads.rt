@@ -1,15 +1,15 @@
 //! What the parts tell.
-ghost use Rattle.std.specs.Prelude.{◌≡◌, ◌<◌, ◌/◌, ◌^◌, ◌↔◌, IsTrue, Some, slice_get, IfSome};
+ghost use Rattle.std.specs.Prelude.{◌≡◌, ◌<◌, ◌/◌, ◌^◌, ◌↔◌, IsTrue, Some, slice_get, is_none, IfSome};
 ghost use Rattle.std.specs.Option.{option_map};
 ghost use Rattle.tez_task.specs.TaskState.{HasRoom};
 ghost use Rattle.tez_pool.specs.Table.{place_held};
 ghost use Rattle.tez_schedule.specs.Table.{config_at, progress_at, is_task};
 ghost use Rattle.tez_master_model.specs.Enabled.{why_in};
-ghost use Rattle.tez_master_model.specs.Read.{task_in, state_in, winner_in, next_in, is_in_queue, is_at_place, is_at_work, is_queued, waits, processes, free_place, is_free_place, location_in, is_on_shelf, source_in, are_done, first_sink, all_sinks, is_running};
+ghost use Rattle.tez_master_model.specs.Read.{task_in, state_in, winner_in, next_in, is_in_queue, is_at_place, is_at_work, is_queued, waits, processes, free_place, is_free_place, location_in, is_on_shelf, source_in, are_done, first_sink, all_sinks, next_sink, is_next, is_running};
 
 use crate::locations::location_at;
 use crate::parts::Core;
-use crate::sinks::{are_all_done, has_edge_out, is_first_open, target_of};
+use crate::sinks::{are_all_done, has_edge_out, is_first_open, nth_sink, target_of};
 use crate::tasks::{has_room, next_of, state_of, why_of, winner_of};
 use tez_attempt::AttemptState;
 use tez_ids::{AttemptId, EdgeId, NodeId, TaskId, VertexId};
@@ -203,15 +203,26 @@ impl Core {
         are_all_done(&self.plan, &self.readied)
     }
 
-    pub(crate) fn is_first_unpublished(&self, v: VertexId) -> bool
-        ensures { result ≡ first_sink self.now self.now.published v.0 }
+    /// The vertex whose sink the journal records next, None once each is recorded. Takes time in the
+    /// vertices.
+    pub fn next_sink(&self) -> Option<VertexId>
+        ensures { option_map (λ v. v.0) result ≡ next_sink self.now }
     {
-        is_first_open(&self.plan, &self.published, v)
+        nth_sink(&self.plan, self.recorded)
     }
 
-    pub(crate) fn are_all_published(&self) -> bool
-        ensures { result ≡ all_sinks self.now self.now.published }
+    pub(crate) fn are_all_recorded(&self) -> bool
+        ensures { result ≡ is_none (next_sink self.now) }
     {
-        are_all_done(&self.plan, &self.published)
+        self.next_sink().is_none()
+    }
+
+    pub(crate) fn is_next(&self, v: VertexId) -> bool
+        ensures { result ≡ is_next self.now v.0 }
+    {
+        match self.next_sink() {
+            Some(next) => next == v,
+            None => false,
+        }
     }
 }

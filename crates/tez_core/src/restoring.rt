@@ -7,7 +7,7 @@ ghost use Rattle.tez_master_model.specs.Vertices.{carry_one, failures_in, keep_o
 ghost use Rattle.tez_master_model.specs.Read.{task_in};
 ghost use Rattle.tez_master_model.specs.Settled.{with_config};
 ghost use Rattle.tez_core.specs.Parts.{task_at};
-ghost use Rattle.tez_master_model.specs.Recovery.{carried, kept, IsNew, CanBeKept};
+ghost use Rattle.tez_master_model.specs.Recovery.{carried, kept, committed, IsNew, CanBeKept};
 
 use crate::kept_winner::Kept;
 use crate::locations::set_location;
@@ -55,6 +55,15 @@ impl Core {
         self.schedule.schedule(a.task);
         self.schedule.win(a.task, k.made());
         set_location(&mut self.locations, a.task, k.slot());
+    }
+
+    /// The commit that an earlier master started is taken up, with so many sinks recorded.
+    pub fn take_up(&mut self, recorded: u32)
+        ensures { self.new ≡ committed self.old recorded }
+    {
+        self.recorded = recorded;
+        self.committing = true;
+        self.found = true;
     }
 }
 

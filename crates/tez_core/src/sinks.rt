@@ -1,5 +1,5 @@
 //! What a plan tells of its sinks and of the edges out of its vertices.
-ghost use Rattle.std.specs.Prelude.{◌≡◌, ◌<◌, ◌≤◌, ◌&&◌, not, length};
+ghost use Rattle.std.specs.Prelude.{◌≡◌, ◌<◌, ◌≤◌, ◌&&◌, not, length, slice_get};
 ghost use Rattle.std.specs.List.{find, list_all};
 ghost use Rattle.std.specs.Option.{option_map};
 ghost use Rattle.tez_plan.specs.Dag.{source_of, target_of};
@@ -62,6 +62,23 @@ pub(crate) fn are_all_done(p: &Plan, done: &[bool]) -> bool
     ensures { result ≡ list_all (flag done.now) (sinks p.now) }
 {
     first_open(p, done).is_none()
+}
+
+/// The vertex of the sink that has `number` sinks before it, None where there are no more. Takes
+/// time in the vertices.
+pub(crate) fn nth_sink(p: &Plan, number: u32) -> Option<VertexId>
+    ensures { option_map (λ v. v.0) result ≡ slice_get (sinks p.now) number }
+{
+    let mut left = number;
+    for v in 0..p.vertices().len() as u16 {
+        if has_sink(p, VertexId(v)) {
+            if left == 0 {
+                return Some(VertexId(v));
+            }
+            left -= 1;
+        }
+    }
+    None
 }
 
 /// Whether some edge leads out of a vertex. Takes time in the edges.

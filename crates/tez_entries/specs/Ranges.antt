@@ -3,7 +3,7 @@
 --     CanTell m e        so it is for the slot of an event that loses a node; no other event asks for anything
 use Rattle.std.specs.Prelude.{ℕ, ◌+◌, ◌<◌, ◌^◌, ⊤, slice_get, IfSome}
 use Rattle.tez_events.specs.declared.CoreEvent.{CoreEvent}
-use Rattle.tez_events.specs.declared.CoreEvent.TheVariants.{Open, Configure, Queue, Place, Fetch, Send, Preempt, Fail, LoseNode, LoseOutput, Restart, Ready, CommitStart, Publish, Finish, Purge}
+use Rattle.tez_events.specs.declared.CoreEvent.TheVariants.{Open, Configure, Queue, Place, Fetch, Send, Preempt, Fail, LoseNode, LoseOutput, Restart, Ready, CommitStart, Ask, Publish, Finish, Purge}
 use Rattle.tez_master_model.specs.State.{MasterState}
 
 abbrev pub HasLife : MasterState → ℕ → Type 0
@@ -23,6 +23,7 @@ CanTell m (LoseOutput t) = ⊤
 CanTell m Restart = ⊤
 CanTell m (Ready v) = ⊤
 CanTell m CommitStart = ⊤
+CanTell m (Ask v) = ⊤
 CanTell m (Publish v) = ⊤
 CanTell m Finish = ⊤
 CanTell m Purge = ⊤

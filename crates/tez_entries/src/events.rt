@@ -34,6 +34,7 @@ pub fn entries(alloc: Global, m: &Core, e: &CoreEvent) -> Result<Vec<Entry>, All
         CoreEvent::Restart => Ok(Vec::new(alloc)),
         CoreEvent::Ready(v) => one(alloc, Entry::Ready(v)),
         CoreEvent::CommitStart => one(alloc, Entry::CommitStarted),
+        CoreEvent::Ask(_) => Ok(Vec::new(alloc)),
         CoreEvent::Publish(v) => one(alloc, Entry::Published(v)),
         CoreEvent::Finish => one(alloc, Entry::Finished),
         CoreEvent::Purge => one(alloc, Entry::Purged),

@@ -36,7 +36,30 @@ fn record_of(entry: Entry) -> Option<JournalRecord>
         }),
         Entry::Succeeded(attempt) => Some(JournalRecord::TaskSucceeded { attempt }),
         Entry::Failed(attempt) => Some(JournalRecord::AttemptFailed { attempt }),
+        Entry::Settled(vertex) => Some(JournalRecord::SinkPublished { vertex }),
+        Entry::Published(vertex) => Some(JournalRecord::SinkPublished { vertex }),
         Entry::Finished => Some(JournalRecord::Finished),
-        _ => None,
+        Entry::Opened(_)
+        | Entry::Over
+        | Entry::Stands(_, _, _)
+        | Entry::Carried(_, _)
+        | Entry::Kept(_)
+        | Entry::Committing(_)
+        | Entry::Queued(_)
+        | Entry::Placed(_, _, _)
+        | Entry::Fetched(_, _, _, _)
+        | Entry::ReadError(_, _, _, _)
+        | Entry::InputFailed(_, _, _, _)
+        | Entry::Ordered(_)
+        | Entry::Made(_, _, _)
+        | Entry::Killed(_, _)
+        | Entry::NodeLost(_, _)
+        | Entry::OutputLost(_)
+        | Entry::Rerun(_)
+        | Entry::Stopped(_)
+        | Entry::Ready(_)
+        | Entry::Asked(_)
+        | Entry::CommitStarted
+        | Entry::Purged => None,
     }
 }

@@ -1,5 +1,5 @@
 -- What a lead keeps, where nothing is configured.
-use Rattle.std.specs.Prelude.{◌≡◌, ℕ, ◌+◌, ◌<◌, ◌≤◌, false, List, map, length, slice_get, Option, Some, None, is_some, refl, option_and_then}
+use Rattle.std.specs.Prelude.{◌≡◌, ℕ, ◌<◌, ◌≤◌, false, map, length, slice_get, Option, Some, None, is_some, refl, option_and_then}
 use Rattle.std.specs.Option.{option_map_or}
 use Rattle.std.proofs.Common.{ap, sym, ◌∙◌, subst, arith, inl, inr, ◌⊎◌, zero-add}
 use Rattle.std.proofs.lemmas.Bool.{cases_lt}
@@ -7,7 +7,6 @@ use Rattle.std.proofs.lemmas.Option.{same_Some, slice_get_within, slice_get_past
 use Rattle.tez_ids.specs.declared.TaskId.{TaskId}
 use Rattle.tez_ids.specs.Same.{task}
 use Rattle.tez_lists.specs.Numbers.{numbers_from}
-use Rattle.tez_lists.specs.Tables.{table}
 use Rattle.tez_lists.proofs.Tables.{get_each, map_each, table_same}
 use Rattle.tez_plan.specs.Dag.{Dag, vertex, tasks_of as planned}
 use Rattle.tez_conf.specs.declared.values.ConfValues.{ConfValues}
@@ -24,7 +23,7 @@ use Rattle.tez_master_model.specs.State.{MasterState}
 use Rattle.tez_master_model.specs.Fresh.{fresh}
 use Rattle.tez_core.specs.Parts.{task_at}
 use Rattle.tez_core.specs.Choosing.{queued_one}
-use Rattle.tez_lead.specs.Kept.{IsVertex, AreVertices, IsKept, is_waiting, queue_of}
+use Rattle.tez_lead.specs.Kept.{AreVertices, IsKept, is_waiting, queue_of}
 use Rattle.tez_lead.proofs.Lists.{long_map}
 use Rattle.tez_lead.proofs.Tasks.{at_vertex}
 use Rattle.tez_lead.proofs.Queues.{with_rows}

@@ -1,8 +1,8 @@
 -- The queue has the tasks of the queued attempts, and its first is that of the shallowest of them.
-use Rattle.std.specs.Prelude.{◌≡◌, ℕ, zero, suc, ◌+◌, ◌<◌, ◌≤◌, nat_lt, ◌==◌, Bool, true, false, if◌then◌else◌, List, [], ◌∷◌, ◌++◌, length, map, slice_get, slice_index_or, Option, Some, None, is_some, refl, option_and_then}
-use Rattle.std.specs.List.{filter, flat_map, list_any}
+use Rattle.std.specs.Prelude.{◌≡◌, ℕ, zero, suc, ◌<◌, ◌≤◌, nat_lt, ◌==◌, Bool, true, false, if◌then◌else◌, List, [], ◌∷◌, ◌++◌, length, map, slice_get, Option, Some, None, is_some, refl, option_and_then}
+use Rattle.std.specs.List.{filter, flat_map}
 use Rattle.std.specs.Option.{option_map, option_map_or}
-use Rattle.std.proofs.Common.{ap, sym, ◌∙◌, subst, arith, inl, inr, zero-add, get_or, eqb-true}
+use Rattle.std.proofs.Common.{ap, sym, ◌∙◌, subst, arith, inl, inr, zero-add, eqb-true}
 use Rattle.std.proofs.lemmas.Bool.Decides.{nat_tests}
 use Rattle.std.proofs.lemmas.Option.{slice_get_past, slice_get_within, get_or_from_slice_get, same_Some}
 use Rattle.tez_ids.specs.declared.TaskId.{TaskId}
@@ -30,9 +30,8 @@ use Rattle.tez_master_model.proofs.Pairs.{in-flat-out, in-filter-passes, in_numb
 use Rattle.tez_master_model.specs.State.{MasterState}
 use Rattle.tez_master_model.specs.Read.{is_in_queue, queued_of, queued_in, depth_in, is_shallower_queued}
 use Rattle.tez_master_model.specs.Choice.{first_queued}
-use Rattle.tez_core.specs.Parts.{task_at}
 use Rattle.tez_core.specs.Choosing.{queued_one, queued_at}
-use Rattle.tez_lead.specs.Kept.{IsTask, IsVertex, AreVertices, IsKept, is_waiting, queue_of}
+use Rattle.tez_lead.specs.Kept.{IsTask, AreVertices, is_waiting, queue_of}
 use Rattle.tez_lead.proofs.Lists.{long_map, by_number, cut_off, picked, filter_below, in_first, in_at, empty_first}
 use Rattle.tez_lead.proofs.Tasks.{at_vertex}
 

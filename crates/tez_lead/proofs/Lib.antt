@@ -4,6 +4,7 @@ pub mod Places
 pub mod Queues
 pub mod Layouts
 pub mod First
+pub mod WorkFirst
 pub mod NodeLoss
 pub mod Beginning
 pub mod Steps

@@ -1,5 +1,5 @@
 -- A node's loss, place by place and task by task.
-use Rattle.std.specs.Prelude.{◌≡◌, ℕ, zero, suc, ◌+◌, ◌*◌, ◌-◌, ◌<◌, ◌≤◌, ◌^◌, ◌==◌, ◌&&◌, Bool, true, false, if◌then◌else◌, List, [], ◌∷◌, ◌++◌, length, map, take, drop, slice_get, slice_set, slice_range, Option, Some, None, IfSome, unwrap_or, refl, option_and_then}
+use Rattle.std.specs.Prelude.{◌≡◌, ℕ, zero, suc, ◌+◌, ◌*◌, ◌-◌, ◌<◌, ◌≤◌, ◌^◌, ◌==◌, ◌&&◌, Bool, true, false, if◌then◌else◌, List, [], ◌∷◌, ◌++◌, length, map, take, drop, slice_get, slice_set, Option, Some, None, IfSome, unwrap_or, refl, option_and_then}
 use Rattle.std.specs.List.{filter, filter_map, flat_map, fold, cons_option}
 use Rattle.std.specs.Option.{option_map, option_map_or}
 use Rattle.std.proofs.Common.{ap, sym, ◌∙◌, subst, arith, add-zero, zero-add, inl, inr, ◌⊎◌}
@@ -11,7 +11,7 @@ use Rattle.tez_ids.specs.declared.TaskId.{TaskId}
 use Rattle.tez_ids.specs.declared.AttemptId.{AttemptId}
 use Rattle.tez_ids.specs.Same.{task, same_task}
 use Rattle.tez_ids.proofs.Sameness.{same_task-true}
-use Rattle.tez_lists.specs.Numbers.{numbers_from, In}
+use Rattle.tez_lists.specs.Numbers.{numbers_from}
 use Rattle.tez_history.specs.Shape.{has_edge_out}
 use Rattle.tez_task.specs.declared.TaskEvent.{TaskEvent}
 use Rattle.tez_task.specs.declared.TaskEvent.TheVariants.{Kill, Lose}
@@ -26,13 +26,13 @@ use Rattle.tez_pool.specs.Table.{who, held_on}
 use Rattle.tez_master_model.proofs.Pairs.{Pairwise, pairwise-flat, pairwise-numbers, in-map-out}
 use Rattle.tez_queue.proofs.ListLemmas.{filter-flat, length_numbers}
 use Rattle.tez_master_model.specs.State.{MasterState}
-use Rattle.tez_master_model.specs.Read.{task_in, winner_in, location_in, is_on_slot, winners_in, lost_in}
+use Rattle.tez_master_model.specs.Read.{task_in, winner_in, is_on_slot, winners_in, lost_in}
 use Rattle.tez_master_model.specs.Settled.{killed, withdrawn, without_node, after_node_loss}
 use Rattle.tez_core.specs.Parts.{task_at}
 use Rattle.tez_core.specs.Choosing.{count_at, lost_by, lost_at}
-use Rattle.tez_lead.specs.Kept.{IsTask, AreVertices}
+use Rattle.tez_lead.specs.Kept.{AreVertices}
 use Rattle.tez_lead.specs.Losing.{killed_by, killed_at, withdrawn_by, withdrawn_at, tasks_in, emptied, RoomsBelow}
-use Rattle.tez_lead.proofs.Lists.{long_map, tells, set_here, set_elsewhere, no_row, row_elsewhere, by_number, filter_map-same}
+use Rattle.tez_lead.proofs.Lists.{long_map, tells, row_elsewhere, by_number, filter_map-same}
 use Rattle.tez_lead.proofs.Tasks.{took_here, took_elsewhere, took_vertices, task_there, kill_winner, count_after, change_none, change_here, change_elsewhere, after_long}
 
 -- ---- steps by number

@@ -1,6 +1,6 @@
 -- A change of one task changes the queue at that task alone.
-use Rattle.std.specs.Prelude.{◌≡◌, ℕ, ◌==◌, ◌&&◌, Bool, true, false, if◌then◌else◌, List, length, map, is_some, refl, option_and_then}
-use Rattle.std.proofs.Common.{ap, sym, ◌∙◌}
+use Rattle.std.specs.Prelude.{◌≡◌, ℕ, Bool, true, false, if◌then◌else◌, List, length, map, is_some, refl, option_and_then}
+use Rattle.std.proofs.Common.{ap, sym}
 use Rattle.tez_ids.specs.declared.TaskId.{TaskId}
 use Rattle.tez_ids.specs.Same.{task, same_task}
 use Rattle.tez_ids.proofs.Sameness.{same_task-true}

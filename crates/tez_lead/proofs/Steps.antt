@@ -8,33 +8,31 @@ use Rattle.tez_ids.specs.declared.TaskId.{TaskId}
 use Rattle.tez_ids.specs.declared.AttemptId.{AttemptId}
 use Rattle.tez_ids.specs.declared.EdgeId.{EdgeId}
 use Rattle.tez_ids.specs.declared.VertexId.{VertexId}
-use Rattle.tez_ids.specs.Same.{task, same_task}
-use Rattle.tez_plan.specs.Dag.{Dag, tasks_of as planned}
-use Rattle.tez_events.specs.declared.CoreEvent.TheVariants.{Queue, Place, Fetch, Send, Preempt, Fail, LoseOutput, Ready, CommitStart, Publish, Finish, Purge}
+use Rattle.tez_ids.specs.Same.{same_task}
+use Rattle.tez_plan.specs.Dag.{tasks_of as planned}
+use Rattle.tez_events.specs.declared.CoreEvent.TheVariants.{Queue, Place, Send, Preempt, Fail, LoseOutput, Ready, CommitStart, Publish, Finish, Purge}
 use Rattle.tez_task.specs.declared.TaskEvent.{TaskEvent}
 use Rattle.tez_task.specs.declared.TaskEvent.TheVariants as task_event
 use Rattle.tez_vertex.specs.Vertex.{Vertex}
 use Rattle.tez_vertex.specs.Table.{task_of}
 use Rattle.tez_master_model.specs.Vertices.{take_in}
-use Rattle.tez_pool.specs.State.{PoolState}
 use Rattle.tez_pool.specs.Victim.{AreIn}
-use Rattle.tez_pool.specs.Table.{after_place, after_sent, after_release, after_loss}
 use Rattle.tez_router.specs.Table.{after_fetched}
-use Rattle.tez_schedule.specs.State.{ScheduleState}
 use Rattle.tez_schedule.specs.Kept.{layout, planned_at}
 use Rattle.tez_schedule.specs.Table.{scheduled_with}
 use Rattle.tez_lead.proofs.Layouts.{layout_changed, layout_winner}
 use Rattle.tez_queue.specs.Queue.{Queue as Waiting, with_task}
 use Rattle.tez_master_model.specs.State.{MasterState}
-use Rattle.tez_master_model.specs.Read.{is_queued, is_in_queue, state_in, is_on_shelf, source_in}
+use Rattle.tez_master_model.specs.Read.{is_queued, is_in_queue, is_on_shelf}
 use Rattle.tez_task.specs.Table.{state_of}
-use Rattle.tez_master_model.specs.Settled.{settled, killed, withdrawn, released, without_node, after_fetch, after_done}
+use Rattle.tez_master_model.specs.Settled.{settled, killed, withdrawn, released, without_node, after_fetch, after_done, after_asked}
+use Rattle.tez_master_model.specs.Recovery.{committed}
 use Rattle.tez_core.specs.Parts.{task_at}
 use Rattle.tez_core.specs.Choosing.{queued_at}
 use Rattle.tez_lead.specs.Kept.{AreVertices, IsFit, IsKept, queue_of}
 use Rattle.tez_lead.proofs.Tasks.{took_elsewhere, took_vertices}
 use Rattle.tez_lead.proofs.Places.{sent_within, release_within, loss_within, place_within, place_per}
-use Rattle.tez_lead.proofs.Queues.{refreshed, unchanged}
+use Rattle.tez_lead.proofs.Queues.{refreshed}
 
 -- what does not speak of tasks
 pub record Stays (m n : MasterState) : Type 0 where
@@ -142,6 +140,13 @@ lose_leaves m t = record { stays = record { plan = refl; conf = refl; within = �
 
 pub ready_leaves : (m : MasterState) (v : VertexId) → Leaves m (settled m (Ready v))
 ready_leaves m v = record { stays = record { plan = refl; conf = refl; within = λ h. h; per_node = refl; layouts = refl }; same = refl }
+
+pub asked_leaves : (m : MasterState) (v : VertexId) (there : Bool) → Leaves m (after_asked m v.0 there)
+asked_leaves m v true = record { stays = record { plan = refl; conf = refl; within = λ h. h; per_node = refl; layouts = refl }; same = refl }
+asked_leaves m v false = record { stays = record { plan = refl; conf = refl; within = λ h. h; per_node = refl; layouts = refl }; same = refl }
+
+pub taken_leaves : (m : MasterState) (n : ℕ) → Leaves m (committed m n)
+taken_leaves m n = record { stays = record { plan = refl; conf = refl; within = λ h. h; per_node = refl; layouts = refl }; same = refl }
 
 pub publish_leaves : (m : MasterState) (v : VertexId) → Leaves m (settled m (Publish v))
 publish_leaves m v = record { stays = record { plan = refl; conf = refl; within = λ h. h; per_node = refl; layouts = refl }; same = refl }

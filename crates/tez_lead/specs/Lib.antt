@@ -1,2 +1,3 @@
 pub mod Kept
 pub mod Losing
+pub mod Found

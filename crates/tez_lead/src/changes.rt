@@ -5,8 +5,8 @@ ghost use Rattle.tez_task.specs.TaskState.{HasRoom};
 ghost use Rattle.tez_pool.specs.Table.{place_held};
 ghost use Rattle.tez_schedule.specs.Table.{is_task};
 ghost use Rattle.tez_queue.specs.Queue.{with_task};
-ghost use Rattle.tez_master_model.specs.Read.{task_in, source_in, is_queued};
-ghost use Rattle.tez_master_model.specs.Settled.{settled, killed, without_node, withdrawn, after_done};
+ghost use Rattle.tez_master_model.specs.Read.{task_in, source_in, is_queued, is_next};
+ghost use Rattle.tez_master_model.specs.Settled.{settled, killed, without_node, withdrawn, after_done, after_asked};
 ghost use Rattle.tez_master_model.specs.Steady.{CanHaveConfig};
 ghost use Rattle.tez_core.specs.Choosing.{queued_at};
 ghost use Rattle.tez_core.specs.Prepared.{IsPreparedFor, IsAdmissionFor};
@@ -163,8 +163,18 @@ impl Lead {
         self.core.start_commit();
     }
 
-    /// The text of a sink is published.
+    /// The store was asked of the sink that is recorded next. Where its text is there already the sink
+    /// is recorded, else it is to be published.
+    pub fn asked(&mut self, v: VertexId, there: bool)
+        requires next { is_next self.old v.0 ≡ true }
+        ensures { self.new ≡ after_asked self.old v.0 there }
+    {
+        self.core.asked(v, there);
+    }
+
+    /// The text of a sink is published, and the sink is recorded.
     pub fn publish(&mut self, v: VertexId)
+        requires next { is_next self.old v.0 ≡ true }
         ensures { self.new ≡ settled self.old (CoreEvent.Publish v) }
     {
         self.core.publish(v);

@@ -10,8 +10,8 @@ use tez_ids::AttemptId;
 use tez_master_model::Why;
 
 impl Lead {
-    /// Whether an event may come now. To open and to restart is not the master's. Takes time in the
-    /// vertices and edges.
+    /// Whether an event may come now. To open, to restart and to ask the store is not the master's.
+    /// Takes time in the vertices and edges.
     pub fn is_enabled(&self, e: &CoreEvent) -> bool
         ensures { result ≡ enabled_in self.now e.now }
     {
@@ -29,6 +29,7 @@ impl Lead {
             CoreEvent::Restart => false,
             CoreEvent::Ready(v) => self.core.may_ready(v),
             CoreEvent::CommitStart => self.core.may_start_commit(),
+            CoreEvent::Ask(_) => false,
             CoreEvent::Publish(v) => self.core.may_publish(v),
             CoreEvent::Finish => self.core.may_finish(),
             CoreEvent::Purge => self.core.may_purge(),

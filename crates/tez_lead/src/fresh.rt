@@ -4,6 +4,7 @@ ghost use Rattle.tez_pool.specs.Victim.{AreIn};
 ghost use Rattle.tez_master_model.specs.Vertices.{AreRestorable};
 ghost use Rattle.tez_master_model.specs.Recovery.{found, CanBeFound};
 ghost use Rattle.tez_master_model.specs.Fresh.{fresh};
+ghost use Rattle.tez_lead.specs.Found.{HasVersion};
 
 use crate::parts::Lead;
 use std::alloc::Global;
@@ -17,8 +18,10 @@ use tez_standing::Standing;
 
 impl Lead {
     /// The parts of a master that begins with these places, and goes on from what the journal tells of
-    /// those before it and from the winners that it keeps. The places are handed back where there is no
-    /// memory. Takes time in the tasks, and for each winner in the vertices and edges.
+    /// those before it and from the winners that it keeps. A commit that an earlier master started is
+    /// taken up, where the journal is of version 2: only such a one tells which sinks are recorded. The
+    /// places are handed back where there is no memory. Takes time in the tasks, and for each winner in
+    /// the vertices and edges.
     pub fn fresh(
         alloc: Global,
         plan: Plan,
@@ -31,6 +34,7 @@ impl Lead {
         // `Pool::is_within` is the test of this.
         requires within { AreIn plan pool.places }
         requires places { pool.per_node ≡ conf.per_node }
+        requires version { HasVersion s.now }
         requires found { CanBeFound (fresh plan conf epoch.0 pool) s.now kept.now }
         ensures state { IfOk result (λ m. m ≡ found (fresh plan conf epoch.0 pool) s.now kept.now) }
         ensures handed_back { IfErr result (λ back. back ≡ pool) }

@@ -2,7 +2,7 @@
 //! tasks, and then the winners that are kept.
 ghost use Rattle.std.specs.Prelude.{◌≡◌, OnOk, OnErr, IfSome};
 ghost use Rattle.tez_master_model.specs.Vertices.{AreRestorable};
-ghost use Rattle.tez_master_model.specs.Recovery.{stood, carried, kept, all_stood, all_carried, all_kept, going_on, found, CanStand, CanBeCarried, CanBeKept, AllCanStand, AllCanBeCarried, AllCanBeKept, CanGoOn, CanBeFound};
+ghost use Rattle.tez_master_model.specs.Recovery.{stood, carried, kept, all_stood, all_carried, all_kept, going_on, committed, found, CanStand, CanBeCarried, CanBeKept, AllCanStand, AllCanBeCarried, AllCanBeKept, CanGoOn, CanBeFound};
 
 use crate::changes::refresh;
 use crate::parts::Lead;
@@ -28,12 +28,23 @@ impl Lead {
     {
         match &s.phase {
             Phase::Running => self.go_on(alloc, s, kept),
-            Phase::CommitStarted(_) => self.go_on(alloc, s, kept),
+            Phase::CommitStarted { sums: _, published } => {
+                self.go_on(alloc, s, kept)?;
+                self.take_up(*published);
+                Ok(())
+            }
             Phase::Finished(_) => {
                 self.finish();
                 Ok(())
             }
         }
+    }
+
+    // No task changes.
+    fn take_up(&mut self, recorded: u32)
+        ensures { self.new ≡ committed self.old recorded }
+    {
+        self.core.take_up(recorded);
     }
 
     fn go_on(&mut self, alloc: Global, s: &Standing, kept: &[Kept]) -> Result<(), AllocError>

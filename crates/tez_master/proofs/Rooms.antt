@@ -1,11 +1,11 @@
 -- What the calls on the parts ask, from the numbers of a master.
 use Rattle.std.specs.Prelude.{◌≡◌, ℕ, ◌+◌, ◌<◌, ◌≤◌, ◌^◌, ◌&&◌, nat_lt, Bool, true, false, length, slice_get, Option, Some, None, IfSome, refl}
-use Rattle.std.proofs.Common.{ap, sym, ◌∙◌, subst, arith}
+use Rattle.std.proofs.Common.{arith}
 use Rattle.std.proofs.lemmas.Bool.Decides.{nat_tests}
 use Rattle.tez_ids.specs.declared.TaskId.{TaskId}
 use Rattle.tez_ids.specs.declared.AttemptId.{AttemptId}
 use Rattle.tez_events.specs.declared.CoreEvent.{CoreEvent}
-use Rattle.tez_events.specs.declared.CoreEvent.TheVariants.{Open, Configure, Queue, Place, Fetch, Send, Preempt, Fail, LoseNode, LoseOutput, Restart, Ready, CommitStart, Publish, Finish, Purge}
+use Rattle.tez_events.specs.declared.CoreEvent.TheVariants.{Open, Configure, Queue, Place, Fetch, Send, Preempt, Fail, LoseNode, LoseOutput, Restart, Ready, CommitStart, Ask, Publish, Finish, Purge}
 use Rattle.tez_task.specs.TaskState.{TaskState, HasRoom}
 use Rattle.tez_master_model.specs.State.{MasterState}
 use Rattle.tez_master_model.specs.Read.{task_in, is_queued}
@@ -43,6 +43,7 @@ can_tell m (LoseOutput t) k = tt
 can_tell m Restart k = tt
 can_tell m (Ready v) k = tt
 can_tell m CommitStart k = tt
+can_tell m (Ask v) k = tt
 can_tell m (Publish v) k = tt
 can_tell m Finish k = tt
 can_tell m Purge k = tt
@@ -84,6 +85,7 @@ single_unprepared m (LoseOutput t) h = tt
 single_unprepared m Restart h = tt
 single_unprepared m (Ready v) h = tt
 single_unprepared m CommitStart h = tt
+single_unprepared m (Ask v) h = tt
 single_unprepared m (Publish v) h = tt
 single_unprepared m Finish h = tt
 single_unprepared m Purge h = tt

@@ -1,5 +1,6 @@
 -- A master with an answer that is not settled yet.
---     Step                      what an answer is about: an event, or the report of an attempt with the bytes of its pieces by edge
+--     Step                      what an answer is about: an event, the report of an attempt with the bytes of its pieces by edge, or
+--                               what the store told of a sink
 --     settled_by m s            the state once the answer is settled
 --     is_single m e             the answer is one entry, and takes no memory
 --     entries_told, records_told, ordered_told, spent_told      what an answer tells
@@ -7,6 +8,7 @@
 --     IsReadyFor m x, step_of x  what an answer that is not settled needs, and what it is about
 --     HasNumbers m              attempts, lives and containers can be numbered on, and each node has a life
 use Rattle.std.specs.Prelude.{◌≡◌, ℕ, ◌<◌, ◌≤◌, ◌^◌, ⊤, Bool, true, false, if◌then◌else◌, List, [], ◌∷◌, length, slice_get, Option, Some, None}
+use Rattle.tez_ids.specs.declared.VertexId.{VertexId}
 use Rattle.tez_ids.specs.declared.TaskId.{TaskId}
 use Rattle.tez_ids.specs.declared.EdgeId.{EdgeId}
 use Rattle.tez_ids.specs.declared.AttemptId.{AttemptId}
@@ -14,13 +16,13 @@ use Rattle.tez_events.specs.declared.Entry.{Entry}
 use Rattle.tez_events.specs.declared.Entry.TheVariants.{Made}
 use Rattle.tez_events.specs.declared.JournalRecord.{JournalRecord}
 use Rattle.tez_events.specs.declared.CoreEvent.{CoreEvent}
-use Rattle.tez_events.specs.declared.CoreEvent.TheVariants.{Open, Configure, Queue, Place, Fetch, Send, Preempt, Fail, LoseNode, LoseOutput, Restart, Ready, CommitStart, Publish, Finish, Purge}
+use Rattle.tez_events.specs.declared.CoreEvent.TheVariants.{Open, Configure, Queue, Place, Fetch, Send, Preempt, Fail, LoseNode, LoseOutput, Restart, Ready, CommitStart, Ask, Publish, Finish, Purge}
 use Rattle.tez_master_model.specs.declared.why.Why.{Why}
 use Rattle.tez_master_model.specs.State.{MasterState}
 use Rattle.tez_master_model.specs.Read.{processes}
-use Rattle.tez_master_model.specs.Enabled.{enabled_in}
+use Rattle.tez_master_model.specs.Enabled.{enabled_in, may_ask}
 use Rattle.tez_master_model.specs.Entries.{is_last_in}
-use Rattle.tez_master_model.specs.Settled.{settled, after_done}
+use Rattle.tez_master_model.specs.Settled.{settled, after_done, after_asked}
 use Rattle.tez_core.specs.Prepared.{IsPreparedFor, IsAdmissionFor}
 use Rattle.tez_lead.specs.Losing.{HasRooms}
 use Rattle.tez_master.specs.declared.pending.Pending.{Pending}
@@ -31,6 +33,7 @@ use Rattle.tez_master.specs.declared.handled.Handled.TheVariants.{Done, Single, 
 pub data Step : Type 0 where
   Took : (event : CoreEvent) → Step
   Reported : (attempt : AttemptId) → (made : List (EdgeId × ℕ)) → Step
+  Asked : (vertex : VertexId) → (there : Bool) → Step
 
 pub record MasterParts : Type 0 where
   pub state : MasterState
@@ -39,6 +42,7 @@ pub record MasterParts : Type 0 where
 abbrev pub settled_by : MasterState → Step → MasterState
 settled_by m (Took e) = settled m e
 settled_by m (Reported a made) = after_done m a made
+settled_by m (Asked v there) = after_asked m v.0 there
 
 -- ---- what an answer tells
 
@@ -57,6 +61,7 @@ is_single m (LoseOutput t) = m.committing
 is_single m Restart = false
 is_single m (Ready v) = false
 is_single m CommitStart = false
+is_single m (Ask v) = false
 is_single m (Publish v) = true
 is_single m Finish = true
 is_single m Purge = true
@@ -128,12 +133,14 @@ IsReadyFor m (pending.Event e) = (enabled_in m e ≡ true) × IsUnprepared e
 IsReadyFor m (pending.Configure v x) = (enabled_in m (Configure v) ≡ true) × IsPreparedFor m v x
 IsReadyFor m (pending.Place a p x) = (enabled_in m (Place a p) ≡ true) × IsAdmissionFor m a x
 IsReadyFor m (pending.Report a made) = processes m a ≡ true
+IsReadyFor m (pending.Asked v there) = may_ask m v.0 ≡ true
 
 abbrev pub step_of : Pending → Step
 step_of (pending.Event e) = Took e
 step_of (pending.Configure v x) = Took (Configure v)
 step_of (pending.Place a p x) = Took (Place a p)
 step_of (pending.Report a made) = Reported a made.items
+step_of (pending.Asked v there) = Asked v there
 
 -- ---- rooms
 

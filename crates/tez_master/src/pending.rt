@@ -13,4 +13,6 @@ pub(crate) enum Pending {
     Place(AttemptId, u32, Admission),
     /// The report of an attempt, with the bytes of its pieces by edge.
     Report(AttemptId, Vec<(EdgeId, u64)>),
+    /// The store was asked of a sink, and its text is there or not.
+    Asked(VertexId, bool),
 }

@@ -4,7 +4,7 @@ ghost use Rattle.std.specs.Option.{option_map};
 ghost use Rattle.tez_ids.specs.declared.AttemptId.{AttemptId as Attempt};
 ghost use Rattle.tez_pool.specs.Table.{place_held};
 ghost use Rattle.tez_schedule.specs.Table.{config_at, progress_at};
-ghost use Rattle.tez_master_model.specs.Enabled.{why_in};
+ghost use Rattle.tez_master_model.specs.Enabled.{why_in, may_ask};
 ghost use Rattle.tez_master_model.specs.Read.{winner_in, free_place, piece_in};
 ghost use Rattle.tez_master_model.specs.Choice.{choice_in};
 ghost use Rattle.tez_master_model.specs.Victim.{IsVictim};
@@ -19,9 +19,18 @@ impl Master {
     /// The master's own next event, None exactly where none of its own may come. Takes time in the
     /// places, the vertices and the edges, and not in tasks and inputs.
     pub fn choice(&self) -> Option<CoreEvent>
-        ensures { (victim : Option Attempt) × IsVictim self.now.state victim × (result ≡ choice_in self.now.state victim) }
+        ensures { (victim : Option Attempt) × IsVictim self.now.state victim
+            × (result ≡ choice_in self.now.state victim) }
     {
         self.lead.choice()
+    }
+
+    /// Whether the store may be asked of a sink: in a commit that an earlier master started, of the one
+    /// that is recorded next, once. Takes time in the vertices.
+    pub fn may_ask(&self, v: VertexId) -> bool
+        ensures { result ≡ may_ask self.now.state v.0 }
+    {
+        self.lead.core().may_ask(v)
     }
 
     /// Why an attempt is not processing, None exactly where it is.

@@ -25,7 +25,7 @@ impl Master {
     }
 }
 
-#[tactic(auto, using(crate::proofs::Rooms::room_in, crate::proofs::Rooms::containers_left, crate::proofs::Rooms::queued_for))]
+#[tactic(auto, using(crate::proofs::Rooms::room_in, crate::proofs::Rooms::containers_left, crate::proofs::Rooms::queued_for, crate::proofs::Commit::asked_next))]
 fn take_effect(lead: &mut Lead, x: Pending)
     requires ready { IsReadyFor lead.old x }
     requires numbers { HasNumbers lead.old }
@@ -37,10 +37,11 @@ fn take_effect(lead: &mut Lead, x: Pending)
         Pending::Configure(v, tasks) => lead.configure_prepared(v, tasks),
         Pending::Place(a, place, room) => lead.place_prepared(a, place, room),
         Pending::Report(a, made) => lead.done(a, made.as_slice()),
+        Pending::Asked(v, there) => lead.asked(v, there),
     }
 }
 
-#[tactic(auto, using(crate::proofs::Rooms::room_in, crate::proofs::Rooms::room_behind, crate::proofs::Rooms::life_in, crate::proofs::Rooms::slot_there, crate::proofs::Rooms::containers_left))]
+#[tactic(auto, using(crate::proofs::Rooms::room_in, crate::proofs::Rooms::room_behind, crate::proofs::Rooms::life_in, crate::proofs::Rooms::slot_there, crate::proofs::Rooms::containers_left, crate::proofs::Commit::published_next))]
 fn take_event(lead: &mut Lead, e: CoreEvent)
     requires enabled { enabled_in lead.old e ≡ true }
     requires unprepared { IsUnprepared e }
@@ -62,6 +63,7 @@ fn take_event(lead: &mut Lead, e: CoreEvent)
         CoreEvent::Purge => lead.purge(),
         CoreEvent::Open => {}
         CoreEvent::Restart => {}
+        CoreEvent::Ask(_) => {}
         CoreEvent::Configure(_) => {}
         CoreEvent::Place(_, _) => {}
     }

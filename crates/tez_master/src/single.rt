@@ -1,6 +1,7 @@
 //! Answers of one entry, which take no memory.
 ghost use Rattle.std.specs.Prelude.{◌≡◌, ◌∷◌, [], true, is_some, IfSome};
 ghost use Rattle.tez_events.specs.declared.CoreEvent.{CoreEvent};
+ghost use Rattle.tez_history.specs.Steps.{asked_entries};
 ghost use Rattle.tez_master_model.specs.Enabled.{enabled_in};
 ghost use Rattle.tez_master_model.specs.Entries.{entries_in};
 ghost use Rattle.tez_entries.specs.Ranges.{CanTell, HasLife};
@@ -9,7 +10,7 @@ ghost use Rattle.tez_master.specs.Master.{is_single, as_list};
 
 use tez_core::Core;
 use tez_events::{CoreEvent, Entry, JournalRecord};
-use tez_ids::TaskId;
+use tez_ids::{TaskId, VertexId};
 
 /// The entry and the record of an event whose answer takes no memory.
 pub(crate) fn single(m: &Core, e: &CoreEvent) -> Option<(Entry, Option<JournalRecord>)>
@@ -20,7 +21,10 @@ pub(crate) fn single(m: &Core, e: &CoreEvent) -> Option<(Entry, Option<JournalRe
     ensures records { IfSome result (λ x. as_list x.1 ≡ records_of (entries_in m.now e.now)) }
 {
     match *e {
-        CoreEvent::Publish(v) => Some((Entry::Published(v), None)),
+        CoreEvent::Publish(vertex) => Some((
+            Entry::Published(vertex),
+            Some(JournalRecord::SinkPublished { vertex }),
+        )),
         CoreEvent::Finish => Some((Entry::Finished, Some(JournalRecord::Finished))),
         CoreEvent::Purge => Some((Entry::Purged, None)),
         CoreEvent::LoseNode(slot) => node_lost(m, slot),
@@ -35,7 +39,23 @@ pub(crate) fn single(m: &Core, e: &CoreEvent) -> Option<(Entry, Option<JournalRe
         | CoreEvent::Fail(_)
         | CoreEvent::Restart
         | CoreEvent::Ready(_)
-        | CoreEvent::CommitStart => None,
+        | CoreEvent::CommitStart
+        | CoreEvent::Ask(_) => None,
+    }
+}
+
+/// The entry and the record of what the store told of a sink.
+pub(crate) fn asked(v: VertexId, there: bool) -> (Entry, Option<JournalRecord>)
+    ensures entries { result.0 ∷ [] ≡ asked_entries v there }
+    ensures records { as_list result.1 ≡ records_of (asked_entries v there) }
+{
+    if there {
+        (
+            Entry::Settled(v),
+            Some(JournalRecord::SinkPublished { vertex: v }),
+        )
+    } else {
+        (Entry::Asked(v), None)
     }
 }
 

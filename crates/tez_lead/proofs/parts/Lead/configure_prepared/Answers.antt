@@ -1,8 +1,7 @@
-use Rattle.std.proofs.Common.{◌≡◌, ◌∙◌, ap, subst}
+use Rattle.std.proofs.Common.{◌∙◌, ap}
 use Rattle.tez_ids.specs.declared.VertexId.{VertexId}
 use Rattle.tez_master_model.specs.State.{MasterState}
 use Rattle.tez_master_model.specs.Settled.{settled}
-use Rattle.tez_core.specs.Prepared.{NewConfigState}
 use Rattle.tez_events.specs.declared.CoreEvent.TheVariants.{Configure}
 use Rattle.tez_lead.proofs.Configuring.{configure_kept}
 use Rattle.tez_lead.proofs.parts.Lead.configure_prepared.Goals as goal

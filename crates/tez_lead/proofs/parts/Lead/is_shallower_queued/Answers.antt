@@ -1,4 +1,4 @@
-use Rattle.std.proofs.Common.{◌≡◌, ◌∙◌, ap, sym, subst, false, nat_lt, Option}
+use Rattle.std.proofs.Common.{◌∙◌, ap, sym, subst, false, nat_lt, Option}
 use Rattle.std.specs.Option.{option_map_or}
 use Rattle.tez_ids.specs.declared.AttemptId.{AttemptId}
 use Rattle.tez_plan.specs.Faults.{IsValid}

@@ -1,7 +1,6 @@
-use Rattle.std.proofs.Common.{◌≡◌, ◌+◌, ◌*◌, ◌^◌, ◌∙◌, ap, sym, subst, suc, arith, fold, length, refl}
+use Rattle.std.proofs.Common.{◌≡◌, ◌+◌, ◌*◌, ◌^◌, ◌∙◌, ap, subst, arith, length, refl}
 use Rattle.tez_master_model.specs.State.{MasterState}
 use Rattle.tez_lead.specs.Kept.{AreVertices}
-use Rattle.tez_lead.specs.Losing.{RoomsBelow}
 use Rattle.tez_lead.proofs.NodeLoss.{wider, withdraw_step, withdraws_on}
 use Rattle.tez_lead.proofs.parts.Lead.withdraw_on.Goals as goal
 
