@@ -20,7 +20,7 @@ use Rattle.tez_progress.proofs.Members.{in_numbers, all_at, found_each}
 use Rattle.tez_contents.specs.Contents.{made}
 use Rattle.tez_contents.specs.Laws.{task_makes}
 use Rattle.tez_contents.proofs.Attempts.{all_right}
-use Rattle.tez_sinks.specs.Sinks.{sink_of, WinnersWereStaged, TasksWereStaged}
+use Rattle.tez_sinks.specs.Sinks.{WinnersWereStaged, TasksWereStaged}
 use Rattle.tez_sinks.specs.Well.{IsWell}
 
 sink_low : (vs : List VertexSpec) (v : ℕ) (name : List ℕ) → option_map_or (λ (s : VertexSpec). s.sink) (slice_get vs v) None ≡ Some name → v < length vs

@@ -1,7 +1,8 @@
 -- The commit of a sink, where the history is well.
 --     ready_named .. ready_again     a sink that is to be readied
 --     publish_named .. publish_right     one that is to be published
-use Rattle.std.specs.Prelude.{◌≡◌, ℕ, not, Bool, true, false, List, ◌∷◌, Some, refl}
+--     publish_readied                    it was readied
+use Rattle.std.specs.Prelude.{◌≡◌, ℕ, not, ◌||◌, Bool, true, false, List, ◌∷◌, Some, refl}
 use Rattle.tez_ids.specs.declared.VertexId.{VertexId}
 use Rattle.tez_lists.specs.Numbers.{In}
 use Rattle.tez_ports.specs.Content.{Named, Store, bytes_of, publishes}
@@ -13,10 +14,10 @@ use Rattle.tez_meaning.specs.Value.{value, sink_text}
 use Rattle.tez_events.specs.declared.Entry.TheVariants.{Ready as Readied, Published}
 use Rattle.tez_events.specs.declared.CoreEvent.TheVariants.{Ready, Publish}
 use Rattle.tez_history.specs.Shape.{vertices, sinks}
-use Rattle.tez_history.specs.History.{Past, is_up, is_finished, is_committing, is_readied, is_published}
-use Rattle.tez_history.specs.Derived.{task_count, winners_of, is_vertex_done, all_done}
-use Rattle.tez_history.specs.Steps.{enabled, is_running}
-use Rattle.tez_laws.proofs.Sinks.{first_in}
+use Rattle.tez_history.specs.History.{Past, is_up, is_finished, is_committing, is_found, is_readied}
+use Rattle.tez_history.specs.Derived.{task_count, winners_of, is_vertex_done, all_done, is_next}
+use Rattle.tez_history.specs.Steps.{enabled, is_running, may_publish}
+use Rattle.tez_laws.proofs.Counting.{next_of, next_in, ready_sink}
 use Rattle.tez_laws.proofs.StepLaw.{both}
 use Rattle.tez_lists.proofs.Flat.{in-filter-out}
 use Rattle.tez_progress.proofs.Members.{all_at}
@@ -25,6 +26,7 @@ use Rattle.tez_contents.proofs.Whole.{winners_whole}
 use Rattle.tez_sinks.specs.Sinks.{sink_of, sink_name, is_purged, StoreIsRight}
 use Rattle.tez_sinks.specs.Well.{IsWell}
 use Rattle.tez_sinks.proofs.Names.{has_name, listed_sink}
+use Rattle.tez_sinks.proofs.Told.{not_told}
 use Rattle.tez_sinks.proofs.Stores.{winners_staged, winners_merge, prepared_store, readied_store, published_store, running_kept}
 
 not_true : (b : Bool) → not b ≡ true → b ≡ false
@@ -49,8 +51,8 @@ readies_now : (g : Dag) (c : ConfValues) (past : Past) (v : VertexId) → enable
 readies_now g c past v on =
     let k = both {x = is_running past} on in
     let d = both {x = all_done g past} k.1 in
-    let first = first_in (λ w. is_readied w past) (sinks g) v.0 (both {x = not (is_committing past)} d.1).1 in
-    record { running = k.0; sink = first.0; done = all_at (λ u. is_vertex_done g u past) v.0 (vertices g) d.0 (in-filter-out _ v.0 (vertices g) first.0) }
+    let sink = ready_sink g past v.0 d.1 in
+    record { running = k.0; sink = sink; done = all_at (λ u. is_vertex_done g u past) v.0 (vertices g) d.0 (in-filter-out _ v.0 (vertices g) sink) }
 
 pub ready_named : (job : Job) (c : ConfValues) (past : Past) (v : VertexId) → enabled job.plan c past (Ready v) ≡ true → sink_of job.plan v.0 ≡ Some (sink_name job.plan v.0)
 ready_named job c past v on = has_name job.plan v.0 (listed_sink job.plan v.0 (readies_now job.plan c past v on).sink).1
@@ -85,18 +87,27 @@ ready_harmless job c past v before store w on r = ready_again job c past v.0 (si
 
 -- ---- to be published
 
+pub publish_readied : (job : Job) (c : ConfValues) (past : Past) (v : VertexId) → IsWell job c past → may_publish job.plan past v.0 ≡ true → is_readied v.0 past ≡ true
+publish_readied job c past v w may =
+    let k = both {x = is_committing past} may in
+    let n = both {x = is_next job.plan past v.0} k.1 in
+    by k.0 n.0 (is_found past) refl n.1
+  where
+    by : is_committing past ≡ true → is_next job.plan past v.0 ≡ true → (b : Bool) → is_found past ≡ b → (not b || is_readied v.0 past) ≡ true → is_readied v.0 past ≡ true
+    by on next true e h = h
+    by on next false e h = all_at (λ u. is_readied u past) v.0 (sinks job.plan) (w.committed on e) (next_in job.plan past v.0 next)
+
 record Publishes (g : Dag) (past : Past) (v : ℕ) : Type 0 where
   running : is_running past ≡ true
-  committing : is_committing past ≡ true
+  may : may_publish g past v ≡ true
+  next : is_next g past v ≡ true
   sink : In v (sinks g)
-  not_yet : is_published v past ≡ false
 
 publishes_now : (g : Dag) (c : ConfValues) (past : Past) (v : VertexId) → enabled g c past (Publish v) ≡ true → Publishes g past v.0
 publishes_now g c past v on =
     let k = both {x = is_running past} on in
-    let d = both {x = is_committing past} k.1 in
-    let first = first_in (λ w. is_published w past) (sinks g) v.0 d.1 in
-    record { running = k.0; committing = d.0; sink = first.0; not_yet = first.1 }
+    let next = next_of g past v.0 k.1 in
+    record { running = k.0; may = k.1; next = next; sink = next_in g past v.0 next }
 
 pub publish_named : (job : Job) (c : ConfValues) (past : Past) (v : VertexId) → enabled job.plan c past (Publish v) ≡ true → sink_of job.plan v.0 ≡ Some (sink_name job.plan v.0)
 publish_named job c past v on = has_name job.plan v.0 (listed_sink job.plan v.0 (publishes_now job.plan c past v on).sink).1
@@ -105,7 +116,7 @@ pub publish_found : (job : Job) (c : ConfValues) (past : Past) (v : VertexId) (b
     → bytes_of (sink_name job.plan v.0) store.readied ≡ Some (sink_text job v.0)
 publish_found job c past v before store w on r =
     let k = publishes_now job.plan c past v on in
-    r.readied (unpurged job c past w k.running) v.0 (sink_name job.plan v.0) (publish_named job c past v on) (all_at (λ u. is_readied u past) v.0 (sinks job.plan) (w.committed k.committing) k.sink) k.not_yet
+    r.readied (unpurged job c past w k.running) v.0 (sink_name job.plan v.0) (publish_named job c past v on) (publish_readied job c past v w k.may) (not_told job.plan c past v.0 w.made k.next)
 
 pub publish_right : (job : Job) (c : ConfValues) (past : Past) (v : VertexId) (before : Named) (store : Store) → IsWell job c past → enabled job.plan c past (Publish v) ≡ true → StoreIsRight job past before store
     → StoreIsRight job (Published v ∷ past) before (publishes (sink_name job.plan v.0) store)

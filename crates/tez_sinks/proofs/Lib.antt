@@ -2,7 +2,9 @@ pub mod Named
 pub mod Names
 pub mod Records
 pub mod Parts
+pub mod Told
 pub mod Publications
+pub mod TakenUp
 pub mod Sums
 pub mod Quiet
 pub mod Stores

@@ -4,9 +4,10 @@
 --     quiet_event, quiet_report     the entries of events of no sink but the start of the commit, and the bytes of a report
 --     quiet_step        an event of no sink
 --     quiet_begins_none     the commit had begun before
-use Rattle.std.specs.Prelude.{◌≡◌, ⊤, ℕ, suc, Bool, true, false, nat_le, if◌then◌else◌, List, [], ◌∷◌, ◌++◌, map, Option, Some, None, refl}
+use Rattle.std.specs.Prelude.{◌≡◌, ⊤, ℕ, suc, ◌==◌, Bool, true, false, nat_le, if◌then◌else◌, List, [], ◌∷◌, ◌++◌, map, Option, Some, None, refl}
 use Rattle.std.specs.List.{list_all}
 use Rattle.std.proofs.Common.{ap, sym, ◌∙◌, subst}
+use Rattle.std.proofs.lemmas.Bool.{or_parts}
 use Rattle.tez_ids.specs.declared.TaskId.{TaskId}
 use Rattle.tez_ids.specs.declared.AttemptId.{AttemptId}
 use Rattle.tez_ids.specs.Same.{same_attempt}
@@ -18,12 +19,13 @@ use Rattle.tez_plan.specs.Dag.{Dag, edge}
 use Rattle.tez_conf.specs.declared.values.ConfValues.{ConfValues}
 use Rattle.tez_meaning.specs.Jobs.{Job}
 use Rattle.tez_events.specs.declared.Entry.{Entry}
-use Rattle.tez_events.specs.declared.Entry.TheVariants.{Opened, Over, Kept, Fetched, ReadError, InputFailed, Ordered, Succeeded, Made, Failed, NodeLost, Rerun, Stopped, Ready as Readied, Published, CommitStarted, Purged}
+use Rattle.tez_events.specs.declared.Entry.TheVariants.{Opened, Over, Kept, Fetched, ReadError, InputFailed, Ordered, Succeeded, Made, Failed, NodeLost, Rerun, Stopped, Committing, Ready as Readied, Settled, Published, CommitStarted, Purged}
 use Rattle.tez_events.specs.declared.CoreEvent.{CoreEvent}
-use Rattle.tez_events.specs.declared.CoreEvent.TheVariants.{Open, Configure, Queue, Place, Fetch, Send, Preempt, Fail, LoseNode, LoseOutput, Restart, Ready, CommitStart, Publish, Finish, Purge}
-use Rattle.tez_history.specs.History.{Past, extend, stage, holder, winner, freed, life, failures, is_committing, is_readied, is_published}
+use Rattle.tez_events.specs.declared.CoreEvent.TheVariants.{Open, Configure, Queue, Place, Fetch, Send, Preempt, Fail, LoseNode, LoseOutput, Restart, Ready, CommitStart, Ask, Publish, Finish, Purge}
+use Rattle.tez_history.specs.History.{Past, extend, stage, holder, winner, freed, life, failures, is_committing, is_readied}
 use Rattle.tez_history.specs.Derived.{tasks, notices, places_on, is_on_node, is_on_shelf}
 use Rattle.tez_history.specs.Steps.{enabled, entries_of, each_after, requeue, withdrawal, killed_by_node, kill_at, withdrawn_if, withdraw_lost, node_kills, node_withdrawals, fetch_entries, winner_behind, output_lost_entries}
+use Rattle.tez_history.specs.Rules.{is_published}
 use Rattle.tez_history.specs.Follows.{MayFollow, IsMade, AllMayFollow, IsAlive}
 use Rattle.tez_laws.proofs.OneLive.{one_live, waiting_alive}
 use Rattle.tez_laws.proofs.Tasks.{no_both, winner_task}
@@ -38,6 +40,7 @@ is_quiet Over = false
 is_quiet (Kept _) = false
 is_quiet (Succeeded _) = false
 is_quiet (Stopped _) = false
+is_quiet (Committing _) = false
 is_quiet (Readied _) = false
 is_quiet (Published _) = false
 is_quiet CommitStarted = false
@@ -49,7 +52,7 @@ pub record IsQuiet (job : Job) (past later : Past) : Type 0 where
   pub makes : (t : TaskId) (w : AttemptId) → winner t later ≡ Some w → made job w later ≡ made job w past
   pub bad : (t : TaskId) (w : AttemptId) → winner t later ≡ Some w → met_bad job w later ≡ met_bad job w past
   pub readied : (v : ℕ) → is_readied v later ≡ true → is_readied v past ≡ true
-  pub published : (v : ℕ) → is_published v later ≡ is_published v past
+  pub published : (v : ℕ) → is_published v later ≡ false → is_published v past ≡ false
   pub view : published_view job later ≡ published_view job past
   pub purged : is_purged later ≡ is_purged past
 
@@ -78,16 +81,26 @@ quiet_one job c past Over m f h = cc
 quiet_one job c past (Kept _) m f h = cc
 quiet_one job c past (Succeeded _) m f h = cc
 quiet_one job c past (Stopped _) m f h = cc
+quiet_one job c past (Committing _) m f h = cc
 quiet_one job c past (Readied _) m f h = cc
 quiet_one job c past (Published _) m f h = cc
 quiet_one job c past Purged m f h = cc
 quiet_one job c past CommitStarted m f h = cc
+quiet_one job c past (Settled u) m f h = record {
+  winners = λ t w k. k;
+  makes = λ t w k. refl;
+  bad = λ t w k. refl;
+  readied = λ v k. k;
+  published = λ v k. (or_parts (u.0 == v) (is_published v past) k).1;
+  view = refl;
+  purged = refl;
+}
 quiet_one job c past (Rerun b) m f h = record {
   winners = λ t w k. freed_some b w (winner t past) k;
   makes = λ t w k. refl;
   bad = λ t w k. refl;
   readied = λ v k. cc;
-  published = λ v. refl;
+  published = λ v k. k;
   view = refl;
   purged = refl;
 }
@@ -100,7 +113,7 @@ quiet_one job c past (Ordered b) m f h =
       makes = λ t w k. made_by w (same_attempt b w) (other t w k) refl;
       bad = λ t w k. bad_by w (same_attempt b w) (other t w k) refl;
       readied = λ v k. k;
-      published = λ v. refl;
+      published = λ v k. k;
       view = refl;
       purged = refl;
     } where
@@ -111,7 +124,7 @@ quiet_one job c past (Ordered b) m f h =
       bad_by : (w : AttemptId) (x : Bool) → (same_attempt b w ≡ true → ⊥) → same_attempt b w ≡ x → (if x then reads_bad job past w.task (λ e i. copied job w e i past) else met_bad job w past) ≡ met_bad job w past
       bad_by w true never e = absurd (never e)
       bad_by w false never e = refl
-quiet_one job c past _ m f h = record { winners = λ t w k. k; makes = λ t w k. refl; bad = λ t w k. refl; readied = λ v k. k; published = λ v. refl; view = refl; purged = refl }
+quiet_one job c past _ m f h = record { winners = λ t w k. k; makes = λ t w k. refl; bad = λ t w k. refl; readied = λ v k. k; published = λ v k. k; view = refl; purged = refl }
 
 -- ---- one after another
 
@@ -119,7 +132,7 @@ abbrev pub all_quiet : List Entry → Bool
 all_quiet es = list_all is_quiet es
 
 pub quiet_all : (job : Job) (c : ConfValues) (past : Past) (es : List Entry) → IsMade job.plan c past → AllMayFollow job.plan c past es → all_quiet es ≡ true → IsQuiet job past (extend past es)
-quiet_all job c past [] m f h = record { winners = λ t w k. k; makes = λ t w k. refl; bad = λ t w k. refl; readied = λ v k. k; published = λ v. refl; view = refl; purged = refl }
+quiet_all job c past [] m f h = record { winners = λ t w k. k; makes = λ t w k. refl; bad = λ t w k. refl; readied = λ v k. k; published = λ v k. k; view = refl; purged = refl }
 quiet_all job c past (e ∷ es) m f h =
     let k = both {x = is_quiet e} h in
     let one = quiet_one job c past e m f.0 k.0 in
@@ -129,7 +142,7 @@ quiet_all job c past (e ∷ es) m f h =
       makes = λ t w x. rest.makes t w x ∙ one.makes t w (rest.winners t w x);
       bad = λ t w x. rest.bad t w x ∙ one.bad t w (rest.winners t w x);
       readied = λ v x. one.readied v (rest.readied v x);
-      published = λ v. rest.published v ∙ one.published v;
+      published = λ v k. one.published v (rest.published v k);
       view = rest.view ∙ one.view;
       purged = rest.purged ∙ one.purged;
     }
@@ -138,7 +151,7 @@ pub quiet_store : (job : Job) (past later : Past) (before : Named) (store : Stor
 quiet_store job past later before store q r = record {
   staged = λ p t w name s k. r.staged (sym q.purged ∙ p) t w name s (q.winners t w k) ∙ ap (λ rs. Some (text rs)) (sym (q.makes t w k));
   called = λ t w name s k. subst (λ rs. In (w, text rs) store.stage_calls) (sym (q.makes t w k)) (r.called t w name s (q.winners t w k));
-  readied = λ p v name s k n. r.readied (sym q.purged ∙ p) v name s (q.readied v k) (sym (q.published v) ∙ n);
+  readied = λ p v name s k n. r.readied (sym q.purged ∙ p) v name s (q.readied v k) (q.published v n);
   publications = r.publications ∙ ap (λ xs. before ++ xs) (sym q.view);
 }
 
@@ -216,6 +229,7 @@ IsPlain (LoseOutput t) = ⊤
 IsPlain Restart = ⊥
 IsPlain (Ready v) = ⊥
 IsPlain CommitStart = ⊥
+IsPlain (Ask v) = ⊥
 IsPlain (Publish v) = ⊥
 IsPlain Finish = ⊤
 IsPlain Purge = ⊥
@@ -232,6 +246,7 @@ quiet_event g c past (LoseNode slot) h = quiet_loss g c past slot (is_committing
 quiet_event g c past (LoseOutput t) h = quiet_output (winner t past)
 quiet_event g c past (Ready v) h = absurd h
 quiet_event g c past CommitStart h = absurd h
+quiet_event g c past (Ask v) h = absurd h
 quiet_event g c past (Publish v) h = absurd h
 quiet_event g c past Finish h = refl
 quiet_event g c past Restart h = absurd h
@@ -261,7 +276,8 @@ quiet_step job c past e m on h = by e on h where
   by (LoseOutput t) on h = plain (LoseOutput t) tt on
   by Restart on h = absurd h
   by (Ready v) on h = absurd h
-  by CommitStart on h = record { winners = λ t w k. k; makes = λ t w k. refl; bad = λ t w k. refl; readied = λ v k. k; published = λ v. refl; view = refl; purged = refl }
+  by CommitStart on h = record { winners = λ t w k. k; makes = λ t w k. refl; bad = λ t w k. refl; readied = λ v k. k; published = λ v k. k; view = refl; purged = refl }
+  by (Ask v) on h = absurd h
   by (Publish v) on h = absurd h
   by Finish on h = plain Finish tt on
   by Purge on h = absurd h
@@ -272,6 +288,7 @@ begins_none : (past : Past) (e : Entry) → is_quiet e ≡ true → is_committin
 begins_none past (Opened _) h k = cc
 begins_none past (Stopped _) h k = cc
 begins_none past CommitStarted h k = cc
+begins_none past (Committing _) h k = cc
 begins_none past _ h k = k
 
 pub quiet_begins_none : (past : Past) (es : List Entry) → all_quiet es ≡ true → is_committing (extend past es) ≡ true → is_committing past ≡ true

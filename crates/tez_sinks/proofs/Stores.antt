@@ -6,6 +6,7 @@
 --     published_store   a sink is published
 --     purged_store      all that was put aside is thrown away
 --     opened_store      a master opens
+--     answered_store    the store answers of a sink
 --     event_good, reported_good      winners stay good
 use Rattle.std.specs.Prelude.{◌≡◌, ℕ, ◌==◌, ◌||◌, Bool, true, false, IsTrue, if◌then◌else◌, List, [], ◌∷◌, ◌++◌, map, Option, Some, None, is_some, refl}
 use Rattle.std.specs.List.{AllByRecursion, filter_map, cons_option}
@@ -33,12 +34,14 @@ use Rattle.tez_meaning.specs.Jobs.{Job}
 use Rattle.tez_meaning.specs.Value.{value, sink_text}
 use Rattle.tez_events.specs.declared.Entry.TheVariants.{Opened, Over, Succeeded, Made, Ready, Published, Finished, Purged}
 use Rattle.tez_events.specs.declared.CoreEvent.{CoreEvent}
-use Rattle.tez_events.specs.declared.CoreEvent.TheVariants.{Open, Configure, Queue, Place, Fetch, Send, Preempt, Fail, LoseNode, LoseOutput, Restart, Ready as ReadySink, CommitStart, Publish, Finish, Purge}
+use Rattle.tez_events.specs.declared.CoreEvent.TheVariants.{Open, Configure, Queue, Place, Fetch, Send, Preempt, Fail, LoseNode, LoseOutput, Restart, Ready as ReadySink, CommitStart, Ask, Publish, Finish, Purge}
 use Rattle.tez_history.specs.Shape.{numbers_below}
-use Rattle.tez_history.specs.History.{Past, extend, stage, winner, is_readied, is_published, is_finished}
+use Rattle.tez_history.specs.History.{Past, extend, stage, winner, is_readied, is_finished}
 use Rattle.tez_history.specs.Derived.{is_processing, task_count, winners_of, is_vertex_done}
 use Rattle.tez_history.specs.Steps.{enabled, entries_of, done_entries}
+use Rattle.tez_history.specs.Rules.{is_published}
 use Rattle.tez_history.specs.Follows.{IsMade, AllMayFollow}
+use Rattle.tez_laws.specs.Laws.{answered}
 use Rattle.tez_laws.proofs.OneLive.{running_alive}
 use Rattle.tez_laws.proofs.StepLaw.{done_may}
 use Rattle.tez_progress.proofs.Members.{clash}
@@ -236,6 +239,22 @@ first_store job e store = opened_store job [] e store.publications store (sym (a
 pub opened_good : (job : Job) (past : Past) (e : Epoch) → WinnersAreGood job (Opened e ∷ past)
 opened_good job past e t w k = cc
 
+-- ---- the store answers
+
+pub answered_store : (job : Job) (past : Past) (v : VertexId) (there : Bool) (before : Named) (store : Store) → StoreIsRight job past before store → StoreIsRight job (answered past v there) before store
+unfolding made
+answered_store job past v false before store r = record { staged = r.staged; called = r.called; readied = r.readied; publications = r.publications }
+answered_store job past v true before store r = record {
+  staged = r.staged;
+  called = r.called;
+  readied = λ p u n s k free. r.readied p u n s k (or_parts (v.0 == u) (is_published u past) free).1;
+  publications = r.publications;
+}
+
+pub answered_good : (job : Job) (past : Past) (v : VertexId) (there : Bool) → WinnersAreGood job past → WinnersAreGood job (answered past v there)
+answered_good job past v false good = good
+answered_good job past v true good = good
+
 -- ---- winners stay good
 
 pub event_good : (job : Job) (c : ConfValues) (past : Past) (e : CoreEvent) → IsMade job.plan c past → enabled job.plan c past e ≡ true → WinnersAreGood job past → WinnersAreGood job (extend past (entries_of job.plan c past e))
@@ -257,6 +276,7 @@ event_good job c past e m on good = by e on where
   by Restart on = λ t w k. cc
   by (ReadySink v) on = good
   by CommitStart on = quiet CommitStart tt on
+  by (Ask v) on = good
   by (Publish v) on = good
   by Finish on = quiet Finish tt on
   by Purge on = good

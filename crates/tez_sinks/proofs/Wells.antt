@@ -1,36 +1,37 @@
--- What the laws of the store ask of a history is kept by each event and report.
+-- What the laws of the store ask of a history is kept by each event, report and answer.
 --     committed_event, committed_report      from the commit on every sink is readied
---     well_begins, well_event, well_report
+--     well_begins, well_event, well_report, well_answer
 --     none_extend       what is in none of these entries
 use Rattle.std.specs.Prelude.{◌≡◌, ℕ, suc, ◌==◌, ◌||◌, not, nat_le, Bool, true, false, IsTrue, if◌then◌else◌, List, [], ◌∷◌, map, Option, Some, None, refl}
 use Rattle.std.specs.List.{list_all}
 use Rattle.std.proofs.Common.{ap}
 use Rattle.std.proofs.lemmas.Bool.{or_parts}
 use Rattle.tez_ids.specs.declared.AttemptId.{AttemptId}
+use Rattle.tez_ids.specs.declared.VertexId.{VertexId}
 use Rattle.tez_plan.specs.Dag.{Dag, edge}
 use Rattle.tez_plan.specs.Faults.{IsValid}
 use Rattle.tez_plan.specs.Ranges.{IsInRanges}
 use Rattle.tez_conf.specs.declared.values.ConfValues.{ConfValues}
 use Rattle.tez_meaning.specs.Jobs.{Job}
 use Rattle.tez_events.specs.declared.Entry.{Entry}
-use Rattle.tez_events.specs.declared.Entry.TheVariants.{Opened, Over, Succeeded, Made, Failed, NodeLost, OutputLost, Rerun, Stopped, Ready as Readied, CommitStarted}
+use Rattle.tez_events.specs.declared.Entry.TheVariants.{Opened, Over, Succeeded, Made, Failed, NodeLost, OutputLost, Rerun, Stopped, Committing, Ready as Readied, CommitStarted}
 use Rattle.tez_events.specs.declared.CoreEvent.{CoreEvent}
-use Rattle.tez_events.specs.declared.CoreEvent.TheVariants.{Open, Configure, Queue, Place, Fetch, Send, Preempt, Fail, LoseNode, LoseOutput, Restart, Ready, CommitStart, Publish, Finish, Purge}
+use Rattle.tez_events.specs.declared.CoreEvent.TheVariants.{Open, Configure, Queue, Place, Fetch, Send, Preempt, Fail, LoseNode, LoseOutput, Restart, Ready, CommitStart, Ask, Publish, Finish, Purge}
 use Rattle.tez_history.specs.Shape.{sinks}
-use Rattle.tez_history.specs.History.{Past, Stage, Unknown, InQueue, Waits, Runs, Ended, extend, stage, winner, holder, life, failures, is_up, is_committing, is_readied}
+use Rattle.tez_history.specs.History.{Past, Stage, Unknown, InQueue, Waits, Runs, Ended, extend, stage, winner, holder, life, failures, is_up, is_committing, is_found, is_readied}
 use Rattle.tez_history.specs.Derived.{is_waiting, is_processing, all_done}
-use Rattle.tez_history.specs.Steps.{enabled, is_running, entries_of, requeue, node_loss_entries, output_lost_entries, done_entries, winner_behind}
+use Rattle.tez_history.specs.Steps.{enabled, is_running, entries_of, requeue, node_loss_entries, output_lost_entries, done_entries, asked_entries, winner_behind}
 use Rattle.tez_history.specs.Follows.{IsMade, AllMayFollow}
-use Rattle.tez_laws.specs.Laws.{place_in}
+use Rattle.tez_laws.specs.Laws.{place_in, answered, AnswersKeep}
 use Rattle.tez_laws.proofs.Places.{stands}
-use Rattle.tez_laws.proofs.StepLaw.{both, event_may, done_may, made-extend}
+use Rattle.tez_laws.proofs.StepLaw.{both, event_may, done_may, asked_may, made-extend}
 use Rattle.tez_progress.specs.Laws.{is_stands}
 use Rattle.tez_progress.proofs.Members.{true_and, clash}
 use Rattle.tez_pool_view.specs.View.{IsWholeAtCommit}
-use Rattle.tez_pool_view.proofs.Committing.{none_holds, whole_event, whole_report}
+use Rattle.tez_pool_view.proofs.Committing.{none_holds, whole_event, whole_report, whole_answer}
 use Rattle.tez_contents.specs.Laws.{IsAllowedNow, WereAllowed, KeptRight, HasNone, is_kept}
 use Rattle.tez_contents.proofs.Allowed.{allowed_next, was_allowed, kept_none, allowed_always, allowed_now, kept_right}
-use Rattle.tez_contents.proofs.Entries.{finds, none_finds, finds_event, finds_report}
+use Rattle.tez_contents.proofs.Entries.{finds, none_finds, finds_event, finds_report, finds_answer}
 use Rattle.tez_sinks.specs.Sinks.{is_over}
 use Rattle.tez_sinks.specs.Well.{IsReadiedAtCommit, IsWell}
 use Rattle.tez_sinks.proofs.Quiet.{is_quiet, all_quiet, IsPlain, quiet_event, quiet_report, quiet_loss, quiet_fetch, quiet_begins_none}
@@ -40,12 +41,14 @@ use Rattle.tez_sinks.proofs.Quiet.{is_quiet, all_quiet, IsPlain, quiet_event, qu
 abbrev is_steady : Entry → Bool
 is_steady (Opened _) = false
 is_steady (Stopped _) = false
+is_steady (Committing _) = false
 is_steady CommitStarted = false
 is_steady (Rerun _) = false
 is_steady _ = true
 
 record IsSteady (past later : Past) : Type 0 where
   committing : is_committing later ≡ true → is_committing past ≡ true
+  found : is_found later ≡ false → is_found past ≡ false
   readied : (v : ℕ) → is_readied v past ≡ true → is_readied v later ≡ true
 
 or_true : (x y : Bool) → y ≡ true → (x || y) ≡ true
@@ -55,25 +58,26 @@ or_true false y h = h
 steady_one : (past : Past) (e : Entry) → is_steady e ≡ true → IsSteady past (e ∷ past)
 steady_one past (Opened _) h = cc
 steady_one past (Stopped _) h = cc
+steady_one past (Committing _) h = cc
 steady_one past CommitStarted h = cc
 steady_one past (Rerun _) h = cc
-steady_one past (Readied w) h = record { committing = λ k. k; readied = λ v k. or_true (w.0 == v) (is_readied v past) k }
-steady_one past _ h = record { committing = λ k. k; readied = λ v k. k }
+steady_one past (Readied w) h = record { committing = λ k. k; found = λ k. k; readied = λ v k. or_true (w.0 == v) (is_readied v past) k }
+steady_one past _ h = record { committing = λ k. k; found = λ k. k; readied = λ v k. k }
 
 steady_all : (past : Past) (es : List Entry) → list_all is_steady es ≡ true → IsSteady past (extend past es)
-steady_all past [] h = record { committing = λ k. k; readied = λ v k. k }
+steady_all past [] h = record { committing = λ k. k; found = λ k. k; readied = λ v k. k }
 steady_all past (e ∷ es) h =
     let k = both {x = is_steady e} h in
     let one = steady_one past e k.0 in
     let rest = steady_all (e ∷ past) es k.1 in
-    record { committing = λ x. one.committing (rest.committing x); readied = λ v x. rest.readied v (one.readied v x) }
+    record { committing = λ x. one.committing (rest.committing x); found = λ x. one.found (rest.found x); readied = λ v x. rest.readied v (one.readied v x) }
 
 still_all : (past later : Past) → ((v : ℕ) → is_readied v past ≡ true → is_readied v later ≡ true) → (vs : List ℕ) → list_all (λ v. is_readied v past) vs ≡ true → list_all (λ v. is_readied v later) vs ≡ true
 still_all past later each [] h = refl
 still_all past later each (v ∷ vs) h = let k = both {x = is_readied v past} h in true_and (each v k.0) (still_all past later each vs k.1)
 
 committed_steady : (g : Dag) (past : Past) (es : List Entry) → list_all is_steady es ≡ true → IsReadiedAtCommit g past → IsReadiedAtCommit g (extend past es)
-committed_steady g past es h r k = let s = steady_all past es h in still_all past (extend past es) s.readied (sinks g) (r (s.committing k))
+committed_steady g past es h r k f = let s = steady_all past es h in still_all past (extend past es) s.readied (sinks g) (r (s.committing k) (s.found f))
 
 -- ---- each event
 
@@ -94,7 +98,7 @@ committed_loss : (g : Dag) (c : ConfValues) (past : Past) (slot : ℕ) → IsRea
     → (all_quiet (if b then NodeLost slot (suc (life slot past)) ∷ [] else node_loss_entries g c past slot) ≡ true)
     → IsReadiedAtCommit g (extend past (if b then NodeLost slot (suc (life slot past)) ∷ [] else node_loss_entries g c past slot))
 committed_loss g c past slot r true e q = committed_steady g past (NodeLost slot (suc (life slot past)) ∷ []) refl r
-committed_loss g c past slot r false e q = λ k. clash (quiet_begins_none past (node_loss_entries g c past slot) q k) e
+committed_loss g c past slot r false e q = λ k f. clash (quiet_begins_none past (node_loss_entries g c past slot) q k) e
 
 committed_output : (g : Dag) (past : Past) (o : Option AttemptId) → IsReadiedAtCommit g past → IsReadiedAtCommit g (extend past (output_lost_entries o))
 committed_output g past None r = r
@@ -109,7 +113,7 @@ committed_event g c past Open m w r on = r
 committed_event g c past (Configure v) m w r on = committed_steady g past (entries_of g c past (Configure v)) refl r
 committed_event g c past (Queue t) m w r on = committed_steady g past (requeue past t) refl r
 committed_event g c past (Place a p) m w r on = committed_steady g past (entries_of g c past (Place a p)) refl r
-committed_event g c past (Fetch a e i) m w r on = λ k.
+committed_event g c past (Fetch a e i) m w r on = λ k f.
     let running = both {x = is_running past} on in
     let up = both {x = is_up past} running.0 in
     let before = quiet_begins_none past (entries_of g c past (Fetch a e i)) (quiet_fetch g c past a e.0 i (winner_behind g past a e.0 i)) k in
@@ -119,9 +123,10 @@ committed_event g c past (Preempt a) m w r on = committed_steady g past (entries
 committed_event g c past (Fail a) m w r on = committed_fail g past a (nat_le c.max_failed (suc (failures a.task past))) r
 committed_event g c past (LoseNode slot) m w r on = committed_loss g c past slot r (is_committing past) refl (quiet_loss g c past slot (is_committing past))
 committed_event g c past (LoseOutput t) m w r on = committed_output g past (winner t past) r
-committed_event g c past Restart m w r on = λ k. cc
+committed_event g c past Restart m w r on = λ k f. cc
 committed_event g c past (Ready v) m w r on = committed_steady g past (entries_of g c past (Ready v)) refl r
-committed_event g c past CommitStart m w r on = λ k. (both {x = not (is_committing past)} (both {x = is_running past} on).1).1
+committed_event g c past CommitStart m w r on = λ k f. (both {x = not (is_committing past)} (both {x = is_running past} on).1).1
+committed_event g c past (Ask v) m w r on = r
 committed_event g c past (Publish v) m w r on = committed_steady g past (entries_of g c past (Publish v)) refl r
 committed_event g c past Finish m w r on = committed_steady g past (entries_of g c past Finish) refl r
 committed_event g c past Purge m w r on = committed_steady g past (entries_of g c past Purge) refl r
@@ -163,7 +168,7 @@ well_begins job c past valid ranges m w none_stands none_kept not_yet = record {
   allowed = allowed_always job.plan c past ranges valid m none_stands;
   now = allowed_now job.plan c past ranges valid m none_stands;
   kept = kept_right job past none_kept;
-  committed = λ k. clash k not_yet;
+  committed = λ k f. clash k not_yet;
 }
 
 pub well_event : (job : Job) (c : ConfValues) (past : Past) (e : CoreEvent) → IsWell job c past → enabled job.plan c past e ≡ true → IsWell job c (extend past (entries_of job.plan c past e))
@@ -194,6 +199,26 @@ well_report job c past a bytes w runs =
       now = s.now;
       kept = s.kept;
       committed = committed_steady job.plan past (done_entries a bytes) (made_steady a bytes) w.committed;
+    }
+
+answer_steady : (v : VertexId) (there : Bool) → list_all is_steady (asked_entries v there) ≡ true
+answer_steady v true = refl
+answer_steady v false = refl
+
+pub well_answer : (job : Job) (c : ConfValues) → AnswersKeep job.plan c (IsWell job c)
+well_answer job c past v there w on =
+    let es = asked_entries v there in
+    let may = asked_may job.plan c past v there on in
+    let s = stands_extend job c past es w.ranges w.valid may (finds_answer v there) (record { allowed = w.allowed; now = w.now; kept = w.kept }) in
+    record {
+      valid = w.valid;
+      ranges = w.ranges;
+      made = made-extend job.plan c past es w.made may;
+      whole = whole_answer job.plan past v there w.whole;
+      allowed = s.allowed;
+      now = s.now;
+      kept = s.kept;
+      committed = committed_steady job.plan past es (answer_steady v there) w.committed;
     }
 
 -- ---- what only a new master finds
@@ -238,6 +263,7 @@ event_over g c past e none = by e where
   by Restart = (refl, none)
   by (Ready v) = (refl, none)
   by CommitStart = (refl, none)
+  by (Ask v) = none
   by (Publish v) = (refl, none)
   by Finish = plain Finish tt
   by Purge = (refl, none)
@@ -246,3 +272,11 @@ pub report_over : (past : Past) (a : AttemptId) (bytes : List (ℕ × ℕ)) → 
 report_over past a bytes none =
     let later = map (λ m. Made a (edge m.0) m.1) bytes in
     none_extend is_over (Succeeded a ∷ past) later (weaker is_quiet (λ x. not (is_over x)) later quiet_found (quiet_report a bytes)) (refl, none)
+
+pub answer_kept : (past : Past) (v : VertexId) (there : Bool) → HasNone is_kept past → HasNone is_kept (answered past v there)
+answer_kept past v true none = (refl, none)
+answer_kept past v false none = (refl, none)
+
+pub answer_over : (past : Past) (v : VertexId) (there : Bool) → HasNone is_over past → HasNone is_over (answered past v there)
+answer_over past v true none = (refl, none)
+answer_over past v false none = (refl, none)

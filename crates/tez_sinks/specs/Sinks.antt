@@ -1,6 +1,7 @@
 -- What the store of the outputs holds after a history, and what was published.
 --     sink_of g v                   the name of a vertex's sink, where it has one
 --     published_view job past       the publications of a history, in order of time
+--     is_taken_up e                 an open took up a commit that had started, or the store had a sink that it was asked of
 --     readied_sums job past         the records and bytes of the sinks that are readied, in order of time
 --     is_purged past                all that was put aside was thrown away since the last open
 --     WinnersAreStaged job past staged      each winner of a vertex with a sink staged the text of its records
@@ -26,11 +27,12 @@ use Rattle.tez_meaning.specs.Jobs.{Job}
 use Rattle.tez_meaning.specs.Value.{value, sink_text, sink_texts}
 use Rattle.tez_meaning.specs.Published.{published}
 use Rattle.tez_events.specs.declared.Entry.{Entry}
-use Rattle.tez_events.specs.declared.Entry.TheVariants.{Opened, Over, Rerun, Ready, Published, Purged}
+use Rattle.tez_events.specs.declared.Entry.TheVariants.{Opened, Over, Rerun, Committing, Ready, Settled, Published, Purged}
 use Rattle.tez_events.specs.declared.CoreEvent.{CoreEvent}
-use Rattle.tez_events.specs.declared.CoreEvent.TheVariants.{Open, Configure, Queue, Place, Fetch, Send, Preempt, Fail, LoseNode, LoseOutput, Restart, Ready as ReadySink, CommitStart, Publish, Finish, Purge}
-use Rattle.tez_history.specs.History.{Past, winner, is_readied, is_published}
+use Rattle.tez_events.specs.declared.CoreEvent.TheVariants.{Open, Configure, Queue, Place, Fetch, Send, Preempt, Fail, LoseNode, LoseOutput, Restart, Ready as ReadySink, CommitStart, Ask, Publish, Finish, Purge}
+use Rattle.tez_history.specs.History.{Past, winner, is_readied}
 use Rattle.tez_history.specs.Derived.{task_count}
+use Rattle.tez_history.specs.Rules.{is_published}
 use Rattle.tez_contents.specs.Contents.{made, met_bad}
 use Rattle.tez_contents.specs.Laws.{task_makes}
 
@@ -48,6 +50,12 @@ abbrev pub published_view : Job → Past → Named
 published_view job [] = []
 published_view job (Published v ∷ past) = published_view job past ++ sink_entry job v.0 ∷ []
 published_view job (_ ∷ past) = published_view job past
+
+-- a publication may then be there without its entry, since a master may stop between the two
+abbrev pub is_taken_up : Entry → Bool
+is_taken_up (Committing n) = true
+is_taken_up (Settled v) = true
+is_taken_up _ = false
 
 -- the records and bytes of a sink
 abbrev pub sink_sum : Job → ℕ → ℕ × ℕ
@@ -122,6 +130,7 @@ IsOfNoSink (LoseOutput t) = ⊤
 IsOfNoSink Restart = ⊥
 IsOfNoSink (ReadySink v) = ⊥
 IsOfNoSink CommitStart = ⊤
+IsOfNoSink (Ask v) = ⊥
 IsOfNoSink (Publish v) = ⊥
 IsOfNoSink Finish = ⊤
 IsOfNoSink Purge = ⊥

@@ -32,7 +32,7 @@ use Rattle.tez_router_view.proofs.Told.{start_view as router_started}
 use Rattle.tez_schedule_view.proofs.Beginning.{start_view as schedule_started}
 use Rattle.tez_master_view.specs.View.{master_view, location_view, locations_view}
 use Rattle.tez_master_view.specs.Laws.{Goes}
-use Rattle.tez_master_view.proofs.Parts.{same_parts, same_rest}
+use Rattle.tez_master_view.proofs.Parts.{Rest, same_parts, same_rest}
 use Rattle.tez_master_model.specs.Fresh.{fresh, no_locations}
 use Rattle.tez_vertex_view.specs.View.{vertices_view}
 use Rattle.tez_pool_view.specs.View.{pool_view}
@@ -76,8 +76,9 @@ no_location g c =
 pub begun_view : (g : Dag) (c : ConfValues) → fresh g c 1 (new_pool c.nodes c.per_node c.reuse) ≡ master_view g c first_past
 begun_view g c =
     let n = length g.vertices in
-    same_parts g c 1 (replicate n false) false false true refl (sym (new_view c)) (sym (router_started g [] (Opened (record { 0 = 1 })) refl)) (sym (schedule_started g c [] (Opened (record { 0 = 1 })) refl)) (sym (no_location g c)) (sym (all-false 0 n))
-    ∙ same_rest g c (vertices_view g c first_past) (pool_view c first_past) (router_view g first_past) (schedule_view g c first_past) (locations_view g c first_past) (map (λ v. is_readied v first_past) (vertices g)) refl (sym (all-false 0 n)) refl refl refl
+    let rest : List Bool → Rest = λ asked. (1, asked, 0, false, false, false, true) in
+    same_parts g c (rest (replicate n false)) refl (sym (new_view c)) (sym (router_started g [] (Opened (record { 0 = 1 })) refl)) (sym (schedule_started g c [] (Opened (record { 0 = 1 })) refl)) (sym (no_location g c)) (sym (all-false 0 n))
+    ∙ same_rest g c (vertices_view g c first_past) (pool_view c first_past) (router_view g first_past) (schedule_view g c first_past) (locations_view g c first_past) (map (λ v. is_readied v first_past) (vertices g)) (ap rest (sym (all-false 0 n)))
 
 -- ---- what holds of it
 

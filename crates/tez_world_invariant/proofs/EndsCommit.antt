@@ -15,14 +15,15 @@ use Rattle.tez_lists.specs.Numbers.{In, numbers_from}
 use Rattle.tez_conf.specs.declared.values.ConfValues.{ConfValues}
 use Rattle.tez_meaning.specs.Jobs.{Job}
 use Rattle.tez_meaning.specs.Value.{sums}
-use Rattle.tez_events.specs.declared.Entry.TheVariants.{Opened, Over, Stopped, Ready as Readied, CommitStarted, Finished}
+use Rattle.tez_events.specs.declared.Entry.TheVariants.{Opened, Over, Stopped, Committing, Ready as Readied, CommitStarted, Finished}
 use Rattle.tez_events.specs.declared.CoreEvent.TheVariants.{Ready, CommitStart, Publish, Purge}
 use Rattle.tez_history.specs.Shape.{vertices, sinks, has_sink}
 use Rattle.tez_history.specs.History.{Past, extend, winner, is_up, is_readied, is_committing, is_finished}
 use Rattle.tez_history.specs.Derived.{is_configured, task_count, winners_of, all_done, is_vertex_done}
-use Rattle.tez_history.specs.Steps.{enabled, entries_of, is_running, is_first_without}
+use Rattle.tez_history.specs.Steps.{enabled, entries_of, is_running}
 use Rattle.tez_history.specs.Follows.{IsMade}
 use Rattle.tez_laws.proofs.StepLaw.{both}
+use Rattle.tez_laws.proofs.Counting.{ready_sink}
 use Rattle.tez_progress.proofs.Members.{clash, in_numbers, all_at, found_each}
 use Rattle.tez_contents.specs.Laws.{HasNone}
 use Rattle.tez_schedule.specs.Table.{progress_at}
@@ -39,22 +40,15 @@ use Rattle.tez_sinks.specs.Sinks.{sink_of, sink_name, is_over}
 use Rattle.tez_sinks.proofs.Bads.{good_defined}
 use Rattle.tez_sinks.proofs.Commits.{ready_named, publish_named}
 use Rattle.tez_sinks.proofs.Names.{listed_sink, sums_are}
-use Rattle.tez_sinks.proofs.Publications.{all_published, finished_published}
+use Rattle.tez_sinks.proofs.Publications.{finished_published}
 use Rattle.tez_sinks.proofs.Stores.{event_good}
 use Rattle.tez_sinks.proofs.Wells.{well_event}
 use Rattle.tez_world_invariant.specs.Keeping.{Parts, Holds, TextsAreRight, sum_of, is_stop, most_entries}
 use Rattle.tez_world_invariant.specs.Store.{IsSuccess}
 use Rattle.tez_world_invariant.specs.Commit.{noted, noted_sums}
-use Rattle.tez_world_invariant.proofs.EndsMaster.{is_enabled}
+use Rattle.tez_world_invariant.proofs.EndsMaster.{is_enabled, takes_up_none}
 
 -- ---- a sink is readied
-
-first_listed : (has : ℕ → Bool) (vs : List ℕ) (v : ℕ) → is_first_without has vs v ≡ true → In v vs
-first_listed has [] v h = cc
-first_listed has (w ∷ ws) v h = by (has w) h (first_listed has ws v) where
-  by : (b : Bool) → (if b then is_first_without has ws v else w == v) ≡ true → (is_first_without has ws v ≡ true → In v ws) → In v (w ∷ ws)
-  by true k rest = inr (rest k)
-  by false k rest = inl (sym (eqb-true w v k))
 
 set_here : {X : Type 0} (xs : List X) (i : ℕ) (x : X) → i < length xs → slice_get (slice_set xs i x) i ≡ Some x
 set_here [] i x h = absurd (omega arith)
@@ -74,11 +68,10 @@ noted_right job ps past v inside right u sink h = by (v.0 == u) refl h where
   by true e k = subst (λ w. slice_get (noted job ps v) w ≡ Some (sum_of job w)) (eqb-true v.0 u e) (set_here ps.texts v.0 (sum_of job v.0) inside)
   by false e k = set_there ps.texts v.0 u (sum_of job v.0) (λ same. clash (eq-eqb v.0 u same) e) ∙ right u sink k
 
--- the first sink without its text is a vertex
+-- a sink that is to be readied is a vertex
 ready_inside : (job : Job) (c : ConfValues) (past : Past) (v : VertexId) → enabled job.plan c past (Ready v) ≡ true → v.0 < length job.plan.vertices
 ready_inside job c past v on =
-    let k = both {x = not (is_committing past)} (both {x = all_done job.plan past} (both {x = is_running past} on).1).1 in
-    (listed_sink job.plan v.0 (first_listed (λ w. is_readied w past) (sinks job.plan) v.0 k.1)).0
+    (listed_sink job.plan v.0 (ready_sink job.plan past v.0 (both {x = all_done job.plan past} (both {x = is_running past} on).1).1)).0
 
 pub ready_holds : (job : Job) (c : ConfValues) (ps : Parts) (past : Past) (v : VertexId) → Holds job c ps past → enabled_in ps.master (Ready v) ≡ true → length (extend past (entries_of job.plan c past (Ready v))) < most_entries
     → Holds job c (record ps { master = settled ps.master (Ready v); texts = noted job ps v }) (extend past (entries_of job.plan c past (Ready v)))
@@ -194,6 +187,7 @@ finished_committing job c (Over ∷ past) m over stop h = let no = over.0 in cc
 finished_committing job c (Opened e ∷ past) m over stop h = cc
 finished_committing job c (Stopped cause ∷ past) m over stop h = let no = stop.0 in cc
 finished_committing job c (CommitStarted ∷ past) m over stop h = refl
+finished_committing job c (Committing n ∷ past) m over stop h = refl
 finished_committing job c (_ ∷ past) m over stop h = finished_committing job c past m.1 over.1 stop.1 h
 
 pub purged_succeeds : (job : Job) (c : ConfValues) (ps : Parts) (past : Past) → Holds job c ps past → enabled_in ps.master Purge ≡ true → IsSuccess job ps.sums (extend past (entries_of job.plan c past Purge))
@@ -204,6 +198,6 @@ purged_succeeds job c ps past h on =
     let w = h.well in
     record {
       defined = good_defined job c past w.ranges w.valid w.made w.allowed w.now w.kept h.none_kept h.good (w.whole.committing h.up committing);
-      whole = all_published job c past w.made (finished_published job.plan c past w.made h.none_over end);
+      whole = finished_published job c past w.made h.none_over (takes_up_none job c ps past h) end;
       sums = h.sums committing;
     }

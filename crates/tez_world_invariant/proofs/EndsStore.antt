@@ -1,10 +1,10 @@
 -- What the store of the outputs holds after each step of a master, and what was published.
 --     store_event, store_report, store_ready, store_publish, store_purge     each step
 --     tasks_stored         at the purge each task of a vertex with a sink was staged
---     published_first      what is published is a first part of the sinks
+--     has_published        what is published is a first part of the sinks
 --     unpublished          nothing is, before the commit starts
-use Rattle.std.specs.Prelude.{◌≡◌, ℕ, Bool, true, false, List, [], ◌∷◌, ◌++◌, map, take, length, Some, None, refl}
-use Rattle.std.proofs.Common.{ap, sym, ◌∙◌}
+use Rattle.std.specs.Prelude.{◌≡◌, ℕ, Bool, true, false, List, [], ◌∷◌, ◌++◌, Some, None, refl}
+use Rattle.std.proofs.Common.{ap, ◌∙◌}
 use Rattle.std.proofs.lemmas.List.{append-nil}
 use Rattle.tez_ids.specs.declared.AttemptId.{AttemptId}
 use Rattle.tez_ids.specs.declared.VertexId.{VertexId}
@@ -14,11 +14,11 @@ use Rattle.tez_lists.specs.Numbers.{In}
 use Rattle.tez_record.specs.Bag.{text}
 use Rattle.tez_conf.specs.declared.values.ConfValues.{ConfValues}
 use Rattle.tez_meaning.specs.Jobs.{Job}
-use Rattle.tez_meaning.specs.Value.{value, sink_text, sink_texts}
-use Rattle.tez_events.specs.declared.Entry.TheVariants.{Opened, Stopped, Published, CommitStarted}
+use Rattle.tez_meaning.specs.Value.{value, sink_text}
+use Rattle.tez_events.specs.declared.Entry.TheVariants.{Opened, Stopped, Committing, Published, CommitStarted}
 use Rattle.tez_events.specs.declared.CoreEvent.{CoreEvent}
 use Rattle.tez_events.specs.declared.CoreEvent.TheVariants.{Ready, Publish, Purge}
-use Rattle.tez_history.specs.History.{Past, Stage, Unknown, InQueue, Waits, Runs, Ended, extend, stage, holder, is_up, is_committing}
+use Rattle.tez_history.specs.History.{Past, Stage, Unknown, InQueue, Waits, Runs, Ended, extend, stage, holder, is_up, is_committing, recorded}
 use Rattle.tez_history.specs.Derived.{is_processing, task_count, winners_of, all_done}
 use Rattle.tez_history.specs.Steps.{entries_of, done_entries}
 use Rattle.tez_history.specs.Follows.{IsMade}
@@ -31,17 +31,16 @@ use Rattle.tez_contents.specs.Contents.{made}
 use Rattle.tez_contents.specs.Laws.{HasNone}
 use Rattle.tez_master_model.specs.Enabled.{enabled_in}
 use Rattle.tez_master_model.specs.Read.{processes}
-use Rattle.tez_sinks.specs.Sinks.{sink_of, sink_name, sink_entry, published_view, StoreIsRight, TasksWereStaged, HasNoSink, IsOfNoSink}
+use Rattle.tez_sinks.specs.Sinks.{sink_of, sink_name, published_view, is_taken_up, StoreIsRight, TasksWereStaged, HasNoSink, IsOfNoSink}
 use Rattle.tez_sinks.proofs.Called.{tasks_staged}
-use Rattle.tez_sinks.proofs.Names.{entries_are}
-use Rattle.tez_sinks.proofs.Publications.{view_splits}
+use Rattle.tez_sinks.proofs.Publications.{counted}
 use Rattle.tez_sinks.proofs.Quiet.{quiet_step, quiet_store}
 use Rattle.tez_sinks.proofs.Stores.{staged_store, reported_staged, reported_plain, purged_store}
 use Rattle.tez_sinks.proofs.Commits.{ready_staged, ready_merged, ready_right, ready_harmless, publish_found, publish_right}
 use Rattle.tez_world_invariant.specs.Keeping.{Parts, Holds, is_stop}
 use Rattle.tez_world_invariant.specs.Store.{HasPublished, WasClear, StoreStands}
 use Rattle.tez_world_invariant.proofs.EndsCommit.{finished_committing}
-use Rattle.tez_world_invariant.proofs.EndsMaster.{is_enabled, runs_now, no_sink_masters}
+use Rattle.tez_world_invariant.proofs.EndsMaster.{is_enabled, runs_now, takes_up_none, no_sink_masters}
 
 -- ---- a store that was clear
 
@@ -124,32 +123,24 @@ store_purge job c ps past before s h k = stands_next job before past (extend pas
 
 -- ---- what was published
 
-first_part : {X Y : Type 0} (f : X → Y) (xs ys : List X) → take (length xs) (map f (xs ++ ys)) ≡ map f xs
-first_part f [] ys = refl
-first_part f (x ∷ xs) ys = ap (λ zs. f x ∷ zs) (first_part f xs ys)
-
-pub published_first : (job : Job) (c : ConfValues) (past : Past) → IsMade job.plan c past → (n : ℕ) × (published_view job past ≡ take n (sink_texts job))
-published_first job c past m =
-    let s = view_splits job c past m in
-    (length s.parts.done, s.view ∙ sym (first_part (sink_entry job) s.parts.done s.parts.todo) ∙ ap (λ xs. take (length s.parts.done) (map (sink_entry job) xs)) (sym s.parts.all) ∙ ap (take (length s.parts.done)) (entries_are job))
-
-has_published : (job : Job) (c : ConfValues) (past : Past) (before : Named) (s : Store) → IsMade job.plan c past → StoreIsRight job past before s → HasPublished job before s
-has_published job c past before s m r = let p = published_first job c past m in (p.0, r.publications ∙ ap (λ xs. before ++ xs) p.1)
+has_published : (job : Job) (c : ConfValues) (past : Past) (before : Named) (s : Store) → IsMade job.plan c past → HasNone is_taken_up past → StoreIsRight job past before s → HasPublished job before s
+has_published job c past before s m none r = (recorded past, r.publications ∙ ap (λ xs. before ++ xs) (counted job c past m none))
 
 pub store_published : (job : Job) (c : ConfValues) (ps : Parts) (past : Past) (before : Named) (s : Store) → Holds job c ps past → StoreStands job before past s → HasPublished job before s
-store_published job c ps past before s h k = has_published job c past before s h.well.made k.right
+store_published job c ps past before s h k = has_published job c past before s h.well.made (takes_up_none job c ps past h) k.right
 
 -- the publication took effect, and its entry did not come
 pub store_tried : (job : Job) (c : ConfValues) (ps : Parts) (past : Past) (v : VertexId) (before : Named) (s : Store) → Holds job c ps past → enabled_in ps.master (Publish v) ≡ true → StoreStands job before past s
     → HasPublished job before (publishes (sink_name job.plan v.0) s)
 store_tried job c ps past v before s h on k =
     let may = is_enabled job c ps past (Publish v) h tt on in
-    has_published job c (Published v ∷ past) before (publishes (sink_name job.plan v.0) s) (made-extend job.plan c past (entries_of job.plan c past (Publish v)) h.well.made (event_may job.plan c past (Publish v) h.well.made may)) (publish_right job c past v before s h.well may k.right)
+    has_published job c (Published v ∷ past) before (publishes (sink_name job.plan v.0) s) (made-extend job.plan c past (entries_of job.plan c past (Publish v)) h.well.made (event_may job.plan c past (Publish v) h.well.made may)) (refl, takes_up_none job c ps past h) (publish_right job c past v before s h.well may k.right)
 
 pub unpublished : (job : Job) (c : ConfValues) (past : Past) → IsMade job.plan c past → HasNone is_stop past → is_committing past ≡ false → published_view job past ≡ []
 unpublished job c [] m none h = refl
-unpublished job c (Published v ∷ past) m none h = clash m.0.0 h
+unpublished job c (Published v ∷ past) m none h = clash (both {x = is_committing past} m.0).0 h
 unpublished job c (CommitStarted ∷ past) m none h = cc
+unpublished job c (Committing n ∷ past) m none h = cc
 unpublished job c (Stopped cause ∷ past) m none h = cc
 unpublished job c (Opened e ∷ []) m none h = refl
 unpublished job c (Opened e ∷ Stopped cause ∷ past) m none h = let no = none.1.0 in cc

@@ -9,9 +9,9 @@ use Rattle.tez_ids.specs.declared.NodeId.{NodeId}
 use Rattle.tez_plan.specs.Dag.{Dag}
 use Rattle.tez_conf.specs.declared.values.ConfValues.{ConfValues}
 use Rattle.tez_events.specs.declared.Entry.{Entry}
-use Rattle.tez_events.specs.declared.Entry.TheVariants.{Opened, Over, Kept, Succeeded, Rerun, Stopped, Ready as Readied, Published, CommitStarted, Purged}
+use Rattle.tez_events.specs.declared.Entry.TheVariants.{Opened, Over, Kept, Succeeded, Rerun, Stopped, Committing, Ready as Readied, Published, CommitStarted, Purged}
 use Rattle.tez_events.specs.declared.CoreEvent.{CoreEvent}
-use Rattle.tez_events.specs.declared.CoreEvent.TheVariants.{Open, Configure, Queue, Place, Fetch, Send, Preempt, Fail, LoseNode, LoseOutput, Restart, Ready, CommitStart, Publish, Finish, Purge}
+use Rattle.tez_events.specs.declared.CoreEvent.TheVariants.{Open, Configure, Queue, Place, Fetch, Send, Preempt, Fail, LoseNode, LoseOutput, Restart, Ready, CommitStart, Ask, Publish, Finish, Purge}
 use Rattle.tez_meaning.specs.Jobs.{Job}
 use Rattle.tez_history.specs.History.{Past, extend, is_up, is_committing, is_readied}
 use Rattle.tez_history.specs.Steps.{enabled, entries_of}
@@ -49,6 +49,7 @@ leaves_one past Over h = cc
 leaves_one past (Kept _) h = cc
 leaves_one past (Succeeded _) h = cc
 leaves_one past (Stopped _) h = cc
+leaves_one past (Committing _) h = cc
 leaves_one past (Readied _) h = cc
 leaves_one past (Published _) h = cc
 leaves_one past CommitStarted h = cc
@@ -88,6 +89,7 @@ leaves_event g c past e k = by e k where
   by Restart h = absurd h
   by (Ready v) h = absurd h
   by CommitStart h = absurd h
+  by (Ask v) h = absurd h
   by (Publish v) h = record { up = λ k. k; committing = λ k. k; readied = λ v k. k; stopped = λ k. (refl, k) }
   by Finish h = quiet Finish tt
   by Purge h = absurd h
@@ -108,6 +110,7 @@ plain_masters (LoseOutput t) h = tt
 plain_masters Restart h = absurd h
 plain_masters (Ready v) h = absurd h
 plain_masters CommitStart h = absurd h
+plain_masters (Ask v) h = absurd h
 plain_masters (Publish v) h = tt
 plain_masters Finish h = tt
 plain_masters Purge h = absurd h

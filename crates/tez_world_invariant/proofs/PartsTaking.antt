@@ -1,14 +1,16 @@
--- What the master takes, adds and chooses.
-use Rattle.std.specs.Prelude.{◌≡◌, ℕ, suc, ◌+◌, nat_le, true, false, not, Option, refl}
+-- What the master takes, adds and chooses, and that it does not ask the store.
+use Rattle.std.specs.Prelude.{◌≡◌, ℕ, suc, ◌+◌, ◌&&◌, nat_le, Bool, true, false, not, Option, refl}
 use Rattle.std.specs.Option.{option_map_or}
 use Rattle.std.proofs.Common.{ap, sym, ◌∙◌, arith, subst}
 use Rattle.tez_ids.specs.declared.AttemptId.{AttemptId}
+use Rattle.tez_ids.specs.declared.VertexId.{VertexId}
 use Rattle.tez_conf.specs.declared.values.ConfValues.{ConfValues}
 use Rattle.tez_events.specs.declared.CoreEvent.{CoreEvent}
-use Rattle.tez_events.specs.declared.CoreEvent.TheVariants.{Open, Configure, Queue, Place, Fetch, Send, Preempt, Fail, LoseNode, LoseOutput, Restart, Ready, CommitStart, Publish, Finish, Purge}
+use Rattle.tez_events.specs.declared.CoreEvent.TheVariants.{Open, Configure, Queue, Place, Fetch, Send, Preempt, Fail, LoseNode, LoseOutput, Restart, Ready, CommitStart, Ask, Publish, Finish, Purge}
 use Rattle.tez_meaning.specs.Jobs.{Job}
-use Rattle.tez_history.specs.History.{Past, stage, is_up, failures}
-use Rattle.tez_history.specs.Steps.{entries_of, choice, is_running}
+use Rattle.tez_history.specs.History.{Past, stage, is_up, failures, was_asked}
+use Rattle.tez_history.specs.Derived.{is_next}
+use Rattle.tez_history.specs.Steps.{enabled, entries_of, choice, is_running}
 use Rattle.tez_task.specs.Table.{is_last}
 use Rattle.tez_laws.specs.Laws.{SpendsNot}
 use Rattle.tez_laws.proofs.StepLaw.{both, alive_task}
@@ -21,8 +23,10 @@ use Rattle.tez_master_model.specs.Victim.{IsVictim}
 use Rattle.tez_master_view.proofs.Lines.{adds}
 use Rattle.tez_master_view.proofs.Chosen.{choice_same}
 use Rattle.tez_master_view.proofs.TaskReadings.{task_read}
+use Rattle.tez_sinks.proofs.TakenUp.{own_commit}
 use Rattle.tez_world_invariant.specs.Keeping.{Parts, Holds}
 use Rattle.tez_world_invariant.specs.Step.{IsPlain, later, is_purge}
+use Rattle.tez_world_invariant.proofs.EndsMaster.{takes_up_none}
 use Rattle.tez_world_invariant.proofs.PartsKeep.{on_of, leaves_event}
 
 pub events_taken : (job : Job) (c : ConfValues) (ps : Parts) (past : Past) (e : CoreEvent) → Holds job c ps past → IsMasters e → enabled_in ps.master e ≡ true → entries_in ps.master e ≡ entries_of job.plan c past e
@@ -51,9 +55,21 @@ stays_up job c ps past e h is = by e is where
   by Restart k = absurd k
   by (Ready v) k = h.up
   by CommitStart k = h.up
+  by (Ask v) k = absurd k
   by (Publish v) k = plain (Publish v) tt
   by Finish k = plain Finish tt
   by Purge k = refl
+
+-- no commit was taken up
+and_none : (x : Bool) → (x && false) ≡ false
+and_none true = refl
+and_none false = refl
+
+pub asks_none : (job : Job) (c : ConfValues) (ps : Parts) (past : Past) (v : VertexId) → Holds job c ps past
+    → enabled job.plan c past (Ask v) ≡ false
+asks_none job c ps past v h =
+    ap (λ b. is_running past && (b && (is_next job.plan past v.0 && not (was_asked v.0 past))))
+    (own_commit past (takes_up_none job c ps past h)) ∙ and_none (is_running past)
 
 more : (n : ℕ) → n + 1 ≡ suc n
 more n = omega arith

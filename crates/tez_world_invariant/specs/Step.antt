@@ -12,7 +12,7 @@ use Rattle.tez_ids.specs.declared.NodeId.{NodeId}
 use Rattle.tez_plan.specs.Dag.{edge}
 use Rattle.tez_conf.specs.declared.values.ConfValues.{ConfValues}
 use Rattle.tez_events.specs.declared.CoreEvent.{CoreEvent}
-use Rattle.tez_events.specs.declared.CoreEvent.TheVariants.{Open, Configure, Queue, Place, Fetch, Send, Preempt, Fail, LoseNode, LoseOutput, Restart, Ready, CommitStart, Publish, Finish, Purge}
+use Rattle.tez_events.specs.declared.CoreEvent.TheVariants.{Open, Configure, Queue, Place, Fetch, Send, Preempt, Fail, LoseNode, LoseOutput, Restart, Ready, CommitStart, Ask, Publish, Finish, Purge}
 use Rattle.tez_meaning.specs.Jobs.{Job}
 use Rattle.tez_history.specs.History.{Past, extend}
 use Rattle.tez_history.specs.Steps.{entries_of}
@@ -45,6 +45,7 @@ IsPlain (LoseOutput t) = ⊤
 IsPlain Restart = ⊥
 IsPlain (Ready v) = ⊥
 IsPlain CommitStart = ⊥
+IsPlain (Ask v) = ⊥
 IsPlain (Publish v) = ⊤
 IsPlain Finish = ⊤
 IsPlain Purge = ⊥
@@ -63,6 +64,7 @@ is_purge (LoseOutput t) = false
 is_purge Restart = false
 is_purge (Ready v) = false
 is_purge CommitStart = false
+is_purge (Ask v) = false
 is_purge (Publish v) = false
 is_purge Finish = false
 is_purge Purge = true

@@ -23,27 +23,42 @@ ghost use Rattle.tez_world_invariant.specs.Commit.{noted, noted_sums};
 /// A sink that is to be readied has a name, and each task of its vertex has a winner that the master
 /// finds; once it is readied and its records and bytes are noted all holds as before.
 pub fn sinks_are_readied()
-    ensures name { (job : Job) (c : ConfValues) (ps : Parts) (past : Past) (v : VertexId) → Holds job c ps past → enabled_in ps.master (Ready v) ≡ true → sink_of job.plan v.0 ≡ Some (sink_name job.plan v.0) }
-    ensures tasks { (job : Job) (c : ConfValues) (ps : Parts) (past : Past) (v : VertexId) → Holds job c ps past → enabled_in ps.master (Ready v) ≡ true → progress_at ps.master.schedule v.0 ≡ (task_count job.plan v.0 past, task_count job.plan v.0 past) }
-    ensures won { (job : Job) (c : ConfValues) (ps : Parts) (past : Past) (v : VertexId) (i : ℕ) → Holds job c ps past → enabled_in ps.master (Ready v) ≡ true → i < task_count job.plan v.0 past → is_some (winner_in ps.master (task v.0 i)) ≡ true }
-    ensures winners { (job : Job) (c : ConfValues) (ps : Parts) (past : Past) (v n : ℕ) → Holds job c ps past → filter_map (λ i. winner_in ps.master (task v i)) (numbers_from 0 n) ≡ winners_of v n past }
-    ensures holds { (job : Job) (c : ConfValues) (ps : Parts) (past : Past) (v : VertexId) → Holds job c ps past → enabled_in ps.master (Ready v) ≡ true → length (extend past (entries_of job.plan c past (Ready v))) < most_entries → Holds job c (record ps { master = settled ps.master (Ready v); texts = noted job ps v }) (extend past (entries_of job.plan c past (Ready v))) }
+    ensures name { (job : Job) (c : ConfValues) (ps : Parts) (past : Past) (v : VertexId) → Holds job c ps past
+        → enabled_in ps.master (Ready v) ≡ true → sink_of job.plan v.0 ≡ Some (sink_name job.plan v.0) }
+    ensures tasks { (job : Job) (c : ConfValues) (ps : Parts) (past : Past) (v : VertexId) → Holds job c ps past
+        → enabled_in ps.master (Ready v) ≡ true
+        → progress_at ps.master.schedule v.0 ≡ (task_count job.plan v.0 past, task_count job.plan v.0 past) }
+    ensures won { (job : Job) (c : ConfValues) (ps : Parts) (past : Past) (v : VertexId) (i : ℕ) → Holds job c ps past
+        → enabled_in ps.master (Ready v) ≡ true → i < task_count job.plan v.0 past
+        → is_some (winner_in ps.master (task v.0 i)) ≡ true }
+    ensures winners { (job : Job) (c : ConfValues) (ps : Parts) (past : Past) (v n : ℕ) → Holds job c ps past
+        → filter_map (λ i. winner_in ps.master (task v i)) (numbers_from 0 n) ≡ winners_of v n past }
+    ensures holds { (job : Job) (c : ConfValues) (ps : Parts) (past : Past) (v : VertexId) → Holds job c ps past
+        → enabled_in ps.master (Ready v) ≡ true
+        → length (extend past (entries_of job.plan c past (Ready v))) < most_entries
+        → Holds job c (record ps { master = settled ps.master (Ready v); texts = noted job ps v }) (extend past (entries_of job.plan c past (Ready v))) }
 {}
 
 /// When the commit starts what is noted of the sinks are the sums of the job, and with these all holds
 /// as before.
 pub fn commit_has_the_sums()
-    ensures sums { (job : Job) (c : ConfValues) (ps : Parts) (past : Past) → Holds job c ps past → enabled_in ps.master CommitStart ≡ true → noted_sums job ps ≡ sums job }
-    ensures holds { (job : Job) (c : ConfValues) (ps : Parts) (past : Past) → Holds job c ps past → enabled_in ps.master CommitStart ≡ true → length (extend past (entries_of job.plan c past CommitStart)) < most_entries → Holds job c (record ps { master = settled ps.master CommitStart; sums = noted_sums job ps }) (extend past (entries_of job.plan c past CommitStart)) }
+    ensures sums { (job : Job) (c : ConfValues) (ps : Parts) (past : Past) → Holds job c ps past
+        → enabled_in ps.master CommitStart ≡ true → noted_sums job ps ≡ sums job }
+    ensures holds { (job : Job) (c : ConfValues) (ps : Parts) (past : Past) → Holds job c ps past
+        → enabled_in ps.master CommitStart ≡ true
+        → length (extend past (entries_of job.plan c past CommitStart)) < most_entries
+        → Holds job c (record ps { master = settled ps.master CommitStart; sums = noted_sums job ps }) (extend past (entries_of job.plan c past CommitStart)) }
 {}
 
 /// A sink that is to be published has a name.
 pub fn published_sinks_are_named()
-    ensures { (job : Job) (c : ConfValues) (ps : Parts) (past : Past) (v : VertexId) → Holds job c ps past → enabled_in ps.master (Publish v) ≡ true → sink_of job.plan v.0 ≡ Some (sink_name job.plan v.0) }
+    ensures { (job : Job) (c : ConfValues) (ps : Parts) (past : Past) (v : VertexId) → Holds job c ps past
+        → enabled_in ps.master (Publish v) ≡ true → sink_of job.plan v.0 ≡ Some (sink_name job.plan v.0) }
 {}
 
 /// The purge tells that the job has no bad record, that each sink was published with its text, and that
 /// the sums that are told are those of the job.
 pub fn purge_tells_success()
-    ensures { (job : Job) (c : ConfValues) (ps : Parts) (past : Past) → Holds job c ps past → enabled_in ps.master Purge ≡ true → IsSuccess job ps.sums (extend past (entries_of job.plan c past Purge)) }
+    ensures { (job : Job) (c : ConfValues) (ps : Parts) (past : Past) → Holds job c ps past
+        → enabled_in ps.master Purge ≡ true → IsSuccess job ps.sums (extend past (entries_of job.plan c past Purge)) }
 {}

@@ -18,7 +18,9 @@ ghost use Rattle.tez_world_invariant.specs.Step.{later, stepped, fetched};
 /// The shelves have the piece behind the input exactly where the master takes its winner to be on
 /// the shelf, and then it is what the history says that the attempt copies.
 pub fn shelves_have_the_piece()
-    ensures placed { (job : Job) (c : ConfValues) (ps : Parts) (past : Past) (a : AttemptId) (e : EdgeId) (i : ℕ) → Holds job c ps past → enabled_in ps.master (CoreEvent.Fetch a e i) ≡ true → is_some (place_held ps.master.pool.places a) ≡ true }
+    ensures placed { (job : Job) (c : ConfValues) (ps : Parts) (past : Past) (a : AttemptId) (e : EdgeId) (i : ℕ)
+        → Holds job c ps past → enabled_in ps.master (CoreEvent.Fetch a e i) ≡ true
+        → is_some (place_held ps.master.pool.places a) ≡ true }
     ensures there { (job : Job) (c : ConfValues) (ps : Parts) (past : Past) (a : AttemptId) (e : EdgeId) (i : ℕ) (w : AttemptId) (o : ℕ) → Holds job c ps past → piece_in ps.master a e.0 i ≡ Some (w, o) → is_on_shelf ps.master w ≡ true → piece_of ps.shelves w e o ≡ Some (piece_over job.plan past e.0 a.task.index i (made job w past)) }
     ensures gone { (job : Job) (c : ConfValues) (ps : Parts) (past : Past) (a : AttemptId) (e : EdgeId) (i : ℕ) (w : AttemptId) (o : ℕ) → Holds job c ps past → source_in ps.master a e.0 i ≡ Some w → is_on_shelf ps.master w ≡ false → piece_of ps.shelves w e o ≡ None }
 {}

@@ -10,10 +10,14 @@ ghost use Rattle.tez_world_invariant.specs.Keeping.{Parts, Holds};
 
 /// A trace is far shorter than the ranges of the numbers of attempts, lives and containers.
 pub fn numbers_stay_small()
-    ensures attempts { (job : Job) (c : ConfValues) (ps : Parts) (past : Past) → Holds job c ps past → (t : TaskId) → IfSome (task_in ps.master t) (λ s. s.queued < 2 ^ 63) }
-    ensures lives { (job : Job) (c : ConfValues) (ps : Parts) (past : Past) → Holds job c ps past → (slot : ℕ) → IfSome (slice_get ps.master.pool.lives slot) (λ life. life < 2 ^ 63) }
-    ensures nodes { (job : Job) (c : ConfValues) (ps : Parts) (past : Past) → Holds job c ps past → length ps.master.pool.lives ≡ ps.master.conf.nodes }
-    ensures containers { (job : Job) (c : ConfValues) (ps : Parts) (past : Past) → Holds job c ps past → ps.master.pool.next < 2 ^ 126 }
+    ensures attempts { (job : Job) (c : ConfValues) (ps : Parts) (past : Past) → Holds job c ps past → (t : TaskId)
+        → IfSome (task_in ps.master t) (λ s. s.queued < 2 ^ 63) }
+    ensures lives { (job : Job) (c : ConfValues) (ps : Parts) (past : Past) → Holds job c ps past → (slot : ℕ)
+        → IfSome (slice_get ps.master.pool.lives slot) (λ life. life < 2 ^ 63) }
+    ensures nodes { (job : Job) (c : ConfValues) (ps : Parts) (past : Past) → Holds job c ps past
+        → length ps.master.pool.lives ≡ ps.master.conf.nodes }
+    ensures containers { (job : Job) (c : ConfValues) (ps : Parts) (past : Past) → Holds job c ps past
+        → ps.master.pool.next < 2 ^ 126 }
 {}
 
 /// The master gives what the calls on its parts ask for.

@@ -22,5 +22,8 @@ pub fn event_keeps()
 
 /// A configuration, a queued attempt, a publication and the end concern no seat and no shelf.
 pub fn quiet_event_keeps()
-    ensures { (job : Job) (c : ConfValues) (ps : Parts) (past : Past) (e : CoreEvent) → IsPlain e → KeepsSeats e → KeepsShelves e → Holds job c ps past → enabled_in ps.master e ≡ true → length (later job c past e) < most_entries → Holds job c (stepped ps e ps.seats ps.shelves) (later job c past e) }
+    ensures { (job : Job) (c : ConfValues) (ps : Parts) (past : Past) (e : CoreEvent) → IsPlain e → KeepsSeats e
+        → KeepsShelves e → Holds job c ps past → enabled_in ps.master e ≡ true
+        → length (later job c past e) < most_entries
+        → Holds job c (stepped ps e ps.seats ps.shelves) (later job c past e) }
 {}

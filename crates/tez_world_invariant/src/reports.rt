@@ -30,19 +30,35 @@ ghost use Rattle.tez_world_invariant.specs.Reports.{IsOut, made_for, Shelves, Ha
 /// The order of an attempt that is processing lies at the seat of its place. Any other attempt is not
 /// processing for the reason that the history gives.
 pub fn order_of_attempt_is_out()
-    ensures order { (job : Job) (c : ConfValues) (ps : Parts) (past : Past) (a : AttemptId) → Holds job c ps past → processes ps.master a ≡ true → IsOut job c ps past a }
-    ensures why { (job : Job) (c : ConfValues) (ps : Parts) (past : Past) (a : AttemptId) → Holds job c ps past → why_in ps.master a ≡ why_after past a }
-    ensures life { (job : Job) (c : ConfValues) (ps : Parts) (past : Past) (p : ℕ) → Holds job c ps past → p < places c → slice_get ps.master.pool.lives (slot_of c p) ≡ Some (life (slot_of c p) past) }
+    ensures order { (job : Job) (c : ConfValues) (ps : Parts) (past : Past) (a : AttemptId) → Holds job c ps past
+        → processes ps.master a ≡ true → IsOut job c ps past a }
+    ensures why { (job : Job) (c : ConfValues) (ps : Parts) (past : Past) (a : AttemptId) → Holds job c ps past
+        → why_in ps.master a ≡ why_after past a }
+    ensures life { (job : Job) (c : ConfValues) (ps : Parts) (past : Past) (p : ℕ) → Holds job c ps past → p < places c
+        → slice_get ps.master.pool.lives (slot_of c p) ≡ Some (life (slot_of c p) past) }
 {}
 
 /// What is due for the order of an attempt is what the attempt makes, cut for the edges out of its
 /// vertex, and no bad record was met; or the attempt met one, and then the job has one.
 pub fn outcome_is_of_the_attempt()
-    ensures value { (job : Job) (c : ConfValues) (ps : Parts) (past : Past) (a : AttemptId) (p : ℕ) (o : OrderParts) → Holds job c ps past → processes ps.master a ≡ true → place_held ps.master.pool.places a ≡ Some p → seat_at ps.seats p ≡ Out o → (value : Records) (pieces : Pieces) → IsOutcome o (Done value pieces) → value ≡ made job a past }
-    ensures pieces { (job : Job) (c : ConfValues) (ps : Parts) (past : Past) (a : AttemptId) (p : ℕ) (o : OrderParts) → Holds job c ps past → processes ps.master a ≡ true → place_held ps.master.pool.places a ≡ Some p → seat_at ps.seats p ≡ Out o → (value : Records) (pieces : Pieces) → IsOutcome o (Done value pieces) → pieces ≡ pieces_of (outs_for job.plan a.task.vertex.0) value }
-    ensures good { (job : Job) (c : ConfValues) (ps : Parts) (past : Past) (a : AttemptId) (p : ℕ) (o : OrderParts) → Holds job c ps past → processes ps.master a ≡ true → place_held ps.master.pool.places a ≡ Some p → seat_at ps.seats p ≡ Out o → (value : Records) (pieces : Pieces) → IsOutcome o (Done value pieces) → met_bad job a past ≡ false }
-    ensures met { (job : Job) (c : ConfValues) (ps : Parts) (past : Past) (a : AttemptId) (p : ℕ) (o : OrderParts) → Holds job c ps past → processes ps.master a ≡ true → place_held ps.master.pool.places a ≡ Some p → seat_at ps.seats p ≡ Out o → (r : List ℕ) → IsOutcome o (Bad r) → met_bad job a past ≡ true }
-    ensures blames { (job : Job) (c : ConfValues) (ps : Parts) (past : Past) (a : AttemptId) (p : ℕ) (o : OrderParts) → Holds job c ps past → processes ps.master a ≡ true → place_held ps.master.pool.places a ≡ Some p → seat_at ps.seats p ≡ Out o → (r : List ℕ) → IsOutcome o (Bad r) → bad job a.task.vertex.0 ≡ true }
+    ensures value { (job : Job) (c : ConfValues) (ps : Parts) (past : Past) (a : AttemptId) (p : ℕ) (o : OrderParts)
+        → Holds job c ps past → processes ps.master a ≡ true → place_held ps.master.pool.places a ≡ Some p
+        → seat_at ps.seats p ≡ Out o → (value : Records) (pieces : Pieces) → IsOutcome o (Done value pieces)
+        → value ≡ made job a past }
+    ensures pieces { (job : Job) (c : ConfValues) (ps : Parts) (past : Past) (a : AttemptId) (p : ℕ) (o : OrderParts)
+        → Holds job c ps past → processes ps.master a ≡ true → place_held ps.master.pool.places a ≡ Some p
+        → seat_at ps.seats p ≡ Out o → (value : Records) (pieces : Pieces) → IsOutcome o (Done value pieces)
+        → pieces ≡ pieces_of (outs_for job.plan a.task.vertex.0) value }
+    ensures good { (job : Job) (c : ConfValues) (ps : Parts) (past : Past) (a : AttemptId) (p : ℕ) (o : OrderParts)
+        → Holds job c ps past → processes ps.master a ≡ true → place_held ps.master.pool.places a ≡ Some p
+        → seat_at ps.seats p ≡ Out o → (value : Records) (pieces : Pieces) → IsOutcome o (Done value pieces)
+        → met_bad job a past ≡ false }
+    ensures met { (job : Job) (c : ConfValues) (ps : Parts) (past : Past) (a : AttemptId) (p : ℕ) (o : OrderParts)
+        → Holds job c ps past → processes ps.master a ≡ true → place_held ps.master.pool.places a ≡ Some p
+        → seat_at ps.seats p ≡ Out o → (r : List ℕ) → IsOutcome o (Bad r) → met_bad job a past ≡ true }
+    ensures blames { (job : Job) (c : ConfValues) (ps : Parts) (past : Past) (a : AttemptId) (p : ℕ) (o : OrderParts)
+        → Holds job c ps past → processes ps.master a ≡ true → place_held ps.master.pool.places a ≡ Some p
+        → seat_at ps.seats p ≡ Out o → (r : List ℕ) → IsOutcome o (Bad r) → bad job a.task.vertex.0 ≡ true }
 {}
 
 /// A report tells bytes for each scatter-gather edge, whatever they are. Once its seat is vacant and
@@ -54,5 +70,7 @@ pub fn report_is_taken()
 
 /// A failure that spends its task is the last that the task may have.
 pub fn spent_task_failed_often()
-    ensures { (job : Job) (c : ConfValues) (ps : Parts) (past : Past) (a : AttemptId) → Holds job c ps past → enabled_in ps.master (Fail a) ≡ true → is_last_in ps.master a.task ≡ true → c.max_failed ≤ failures a.task (extend past (entries_of job.plan c past (Fail a))) }
+    ensures { (job : Job) (c : ConfValues) (ps : Parts) (past : Past) (a : AttemptId) → Holds job c ps past
+        → enabled_in ps.master (Fail a) ≡ true → is_last_in ps.master a.task ≡ true
+        → c.max_failed ≤ failures a.task (extend past (entries_of job.plan c past (Fail a))) }
 {}
