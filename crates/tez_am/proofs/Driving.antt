@@ -9,24 +9,25 @@ use Rattle.tez_ids.specs.declared.TaskId.{TaskId}
 use Rattle.tez_ids.specs.declared.AttemptId.{AttemptId}
 use Rattle.tez_lists.proofs.Cases.{cases}
 use Rattle.tez_events.specs.declared.CoreEvent.{CoreEvent}
-use Rattle.tez_events.specs.declared.CoreEvent.TheVariants.{Open, Configure, Queue, Place, Fetch, Send, Preempt, Fail, Ready, CommitStart, Publish, Finish, Purge}
+use Rattle.tez_events.specs.declared.CoreEvent.TheVariants.{Open, Configure, Queue, Place, Fetch, Send, Preempt, Fail, Ready, CommitStart, Ask, Publish, Finish, Purge}
 use Rattle.tez_ports.specs.Content.{Named, Store, Told}
 use Rattle.tez_plan.specs.Dag.{Dag}
 use Rattle.tez_conf.specs.declared.values.ConfValues.{ConfValues}
 use Rattle.tez_meaning.specs.Jobs.{Job}
 use Rattle.tez_meaning.specs.Value.{bad}
 use Rattle.tez_history.specs.History.{Past}
-use Rattle.tez_history.specs.Steps.{enabled, candidates, choice, some_configure, some_queue, some_fetch, fetches_of, some_send, some_place, places_of, some_preempt, some_ready, some_publish}
-use Rattle.tez_world.specs.World.{Phase, Down, Up, Over, RunParts, Notes, Stands, StoreAfter, StepIs, FaultIs, IsNoFault, IsBad, ReportAdds, EndIs, next_in}
-use Rattle.tez_world.specs.declared.event.Event.{Event}
-use Rattle.tez_world.specs.declared.event.Event.TheVariants.{Core, Report}
-use Rattle.tez_world.specs.declared.verdict.Verdict.{Verdict}
-use Rattle.tez_world.specs.declared.verdict.Verdict.TheVariants.{Succeeded, SinkExists, AttemptsSpent, DeviceFault}
-use Rattle.tez_world.specs.declared.verdict.Took.{Took}
-use Rattle.tez_world.specs.declared.verdict.Took.TheVariants.{Changed, Ignored, Ended}
+use Rattle.tez_history.specs.Steps.{enabled, candidates, choice, some_configure, some_queue, some_fetch, fetches_of, some_send, some_place, places_of, some_preempt, some_ready, some_ask, some_publish}
+use Rattle.tez_steps.specs.Step.{Phase, Down, Up, Over, Notes, SinksStand, StoreAfter, StepIs, FaultIs, IsNoFault, IsBad, ReportAdds, EndIs}
+use Rattle.tez_world.specs.World.{RunParts, next_in}
+use Rattle.tez_steps.specs.declared.event.Event.{Event}
+use Rattle.tez_steps.specs.declared.event.Event.TheVariants.{Core, Report}
+use Rattle.tez_steps.specs.declared.verdict.Verdict.{Verdict}
+use Rattle.tez_steps.specs.declared.verdict.Verdict.TheVariants.{Succeeded, SinkExists, AttemptsSpent, DeviceFault}
+use Rattle.tez_steps.specs.declared.verdict.Took.{Took}
+use Rattle.tez_steps.specs.declared.verdict.Took.TheVariants.{Changed, Ignored, Ended}
 use Rattle.tez_orders.specs.declared.report.Outcome.{Outcome}
 use Rattle.tez_orders.specs.declared.report.Outcome.TheVariants.{Done, Bad, NoMemory}
-use Rattle.tez_am.specs.Drive.{Moment, IsNoFail, Later, GoesOn, IsVerdict, IsEndOf, IsSure, HasEnded}
+use Rattle.tez_am.specs.Drive.{Moment, IsNoFail, Later, RunGoesOn, IsVerdict, IsEndOf, IsSure, HasEnded}
 use Rattle.tez_am.proofs.Publishing.{rose_later}
 
 -- ---- turns after turns
@@ -37,14 +38,14 @@ later_same m = record { job = refl; told = refl; faults = le_refl m.faults; stop
 later_after : (a b c : Moment) → Later a b → Later b c → Later a c
 later_after a b c h k = record { job = k.job ∙ h.job; told = k.told ∙ h.told; faults = le_trans h.faults k.faults; stops = le_trans h.stops k.stops }
 
-pub goes_same : (m : Moment) → m.phase ≢ Over → GoesOn m m
+pub goes_same : (m : Moment) → m.phase ≢ Over → RunGoesOn m m
 goes_same m going = record { later = later_same m; going = going; store = λ before h. h }
 
-pub goes_after : (a b c : Moment) → GoesOn a b → GoesOn b c → GoesOn a c
+pub goes_after : (a b c : Moment) → RunGoesOn a b → RunGoesOn b c → RunGoesOn a c
 goes_after a b c h k = record {
   later = later_after a b c h.later k.later;
   going = k.going;
-  store = λ before told. subst (λ j. Told c.store (Stands j before c.past c.notes)) h.later.job (k.store before (subst (λ j. Told b.store (Stands j before b.past b.notes)) (sym h.later.job) (h.store before told)));
+  store = λ before told. subst (λ j. Told c.store (SinksStand j before c.past c.notes)) h.later.job (k.store before (subst (λ j. Told b.store (SinksStand j before b.past b.notes)) (sym h.later.job) (h.store before told)));
 }
 
 verdict_after : (a b c : Moment) → Later a b → (v : Verdict) → IsVerdict b c v → IsVerdict a c v
@@ -53,11 +54,11 @@ verdict_after a b c h (SinkExists v) k = subst (λ j. IsVerdict (record a { job 
 verdict_after a b c h (AttemptsSpent t) k = subst (λ j. IsVerdict (record a { job = j }) c (AttemptsSpent t)) h.job k
 verdict_after a b c h (DeviceFault d) k = (k.0, elim k.1 [ inl rose ↦ inl (rose_later _ _ _ h.faults rose) | inr rose ↦ inr (rose_later _ _ _ h.stops rose) ])
 
-pub ends_after : (a b c : Moment) (v : Verdict) → GoesOn a b → HasEnded b c v → HasEnded a c v
+pub ends_after : (a b c : Moment) (v : Verdict) → RunGoesOn a b → HasEnded b c v → HasEnded a c v
 ends_after a b c v h k = record {
   later = later_after a b c h.later k.later;
   right = verdict_after a b c h.later v k.right;
-  store = λ before told. subst (λ j. Told c.store (StoreAfter j before (Ended v) c.past c.notes)) h.later.job (k.store before (subst (λ j. Told b.store (Stands j before b.past b.notes)) (sym h.later.job) (h.store before told)));
+  store = λ before told. subst (λ j. Told c.store (StoreAfter j before (Ended v) c.past c.notes)) h.later.job (k.store before (subst (λ j. Told b.store (SinksStand j before b.past b.notes)) (sym h.later.job) (h.store before told)));
 }
 
 -- ---- the master chooses no failure
@@ -102,6 +103,9 @@ plain_preempt b = λ a e. cc
 plain_ready : (v : VertexId) → Plain (Ready v)
 plain_ready v = λ a e. cc
 
+plain_ask : (v : VertexId) → Plain (Ask v)
+plain_ask v = λ a e. cc
+
 plain_publish : (v : VertexId) → Plain (Publish v)
 plain_publish v = λ a e. cc
 
@@ -122,8 +126,11 @@ candidates_plain g c past =
     (plain_append (some_send g past) _ (plain_map _ plain_send _)
     (plain_append (some_place g c past) _ (plain_flat (places_of c) (λ b. plain_map _ (plain_place b) _) _)
     (plain_append (some_preempt g past) _ (plain_map _ plain_preempt _)
-    (plain_append (some_ready g) _ (plain_map _ (λ v. plain_ready _) _)
-    (plain_start, plain_append (some_publish g) _ (plain_map _ (λ v. plain_publish _) _) (plain_finish, (plain_purge, tt)))))))))
+    (plain_append (some_ready g) _ (plain_map _ (λ v. plain_ready _) _) (
+      plain_start,
+      plain_append (some_ask g) _ (plain_map _ (λ v. plain_ask _) _)
+          (plain_append (some_publish g) _ (plain_map _ (λ v. plain_publish _) _) (plain_finish, (plain_purge, tt))),
+    )))))))
 
 found_plain : (p : CoreEvent → Bool) (xs : List CoreEvent) → AllPlain xs → (e : CoreEvent) → find p xs ≡ Some e → Plain e
 found_plain p [] h e is = cc
@@ -157,11 +164,11 @@ abbrev pub At : RunParts → Option Store → ℕ → ℕ → Moment
 At r s f p = record { job = r.job; phase = r.phase; past = r.past; notes = r.notes; store = s; faults = f; stops = p }
 
 -- what the run alone changed, and not its job or history
-pub mid_goes : (r0 r1 : RunParts) (s : Option Store) (f p : ℕ) → r0.phase ≢ Over → r1.job ≡ r0.job → r1.phase ≡ r0.phase → r1.past ≡ r0.past → r1.notes ≡ r0.notes → GoesOn (At r0 s f p) (At r1 s f p)
+pub mid_goes : (r0 r1 : RunParts) (s : Option Store) (f p : ℕ) → r0.phase ≢ Over → r1.job ≡ r0.job → r1.phase ≡ r0.phase → r1.past ≡ r0.past → r1.notes ≡ r0.notes → RunGoesOn (At r0 s f p) (At r1 s f p)
 mid_goes r0 r1 s f p going job phase past notes = record {
   later = record { job = job; told = refl; faults = le_refl f; stops = le_refl p };
   going = λ over. going (sym phase ∙ over);
-  store = λ before h. subst (λ (n : Notes). Told s (Stands r0.job before r1.past n)) (sym notes) (subst (λ (x : Past). Told s (Stands r0.job before x r0.notes)) (sym past) h);
+  store = λ before h. subst (λ (n : Notes). Told s (SinksStand r0.job before r1.past n)) (sym notes) (subst (λ (x : Past). Told s (SinksStand r0.job before x r0.notes)) (sym past) h);
 }
 
 -- all that a step tells
@@ -171,12 +178,12 @@ pub record Stepped (r1 r2 : RunParts) (o n : Option Store) (f0 f1 p0 p1 : ℕ) (
   pub told : is_some n ≡ is_some o
   pub later : (f0 ≤ f1) × (p0 ≤ p1)
   pub fault : FaultIs f0 p0 f1 p1 took
-  pub store : (before : Named) → r1.phase ≢ Over → Told o (Stands r1.job before r1.past r1.notes) → Told n (StoreAfter r1.job before took r2.past r2.notes)
+  pub store : (before : Named) → r1.phase ≢ Over → Told o (SinksStand r1.job before r1.past r1.notes) → Told n (StoreAfter r1.job before took r2.past r2.notes)
 
 later_by : (r1 r2 : RunParts) (o n : Option Store) (f0 f1 p0 p1 : ℕ) (e : Event) (took : Took) → Stepped r1 r2 o n f0 f1 p0 p1 e took → Later (At r1 o f0 p0) (At r2 n f1 p1)
 later_by r1 r2 o n f0 f1 p0 p1 e took h = record { job = h.job; told = h.told; faults = h.later.0; stops = h.later.1 }
 
-step_on : (r1 r2 : RunParts) (o n : Option Store) (f0 f1 p0 p1 : ℕ) (e : Event) (took : Took) (end : Option Verdict) → r1.phase ≢ Over → Stepped r1 r2 o n f0 f1 p0 p1 e took → IsEndOf took end → end ≡ None → GoesOn (At r1 o f0 p0) (At r2 n f1 p1)
+step_on : (r1 r2 : RunParts) (o n : Option Store) (f0 f1 p0 p1 : ℕ) (e : Event) (took : Took) (end : Option Verdict) → r1.phase ≢ Over → Stepped r1 r2 o n f0 f1 p0 p1 e took → IsEndOf took end → end ≡ None → RunGoesOn (At r1 o f0 p0) (At r2 n f1 p1)
 step_on r1 r2 o n f0 f1 p0 p1 e Changed end going h is none = record {
   later = later_by r1 r2 o n f0 f1 p0 p1 e Changed h;
   going = λ over. let up : r2.phase ≡ Up = h.step.0 in cc;
@@ -222,18 +229,18 @@ if_some_map : (P Q : Verdict → Type 0) (o : Option Verdict) → ((v : Verdict)
 if_some_map P Q None f h = tt
 if_some_map P Q (Some v) f h = f v h
 
-pub turn_on : (r0 r1 r2 : RunParts) (o n : Option Store) (f0 f1 p0 p1 : ℕ) (e : Event) (took : Took) (end : Option Verdict) → GoesOn (At r0 o f0 p0) (At r1 o f0 p0) → Stepped r1 r2 o n f0 f1 p0 p1 e took → IsEndOf took end → end ≡ None
-    → GoesOn (At r0 o f0 p0) (At r2 n f1 p1)
+pub turn_on : (r0 r1 r2 : RunParts) (o n : Option Store) (f0 f1 p0 p1 : ℕ) (e : Event) (took : Took) (end : Option Verdict) → RunGoesOn (At r0 o f0 p0) (At r1 o f0 p0) → Stepped r1 r2 o n f0 f1 p0 p1 e took → IsEndOf took end → end ≡ None
+    → RunGoesOn (At r0 o f0 p0) (At r2 n f1 p1)
 turn_on r0 r1 r2 o n f0 f1 p0 p1 e took end mid h is none = goes_after (At r0 o f0 p0) (At r1 o f0 p0) (At r2 n f1 p1) mid (step_on r1 r2 o n f0 f1 p0 p1 e took end mid.going h is none)
 
-pub turn_ends : (r0 r1 r2 : RunParts) (o n : Option Store) (f0 f1 p0 p1 : ℕ) (e : Event) (took : Took) (end : Option Verdict) → IsNoFail e → GoesOn (At r0 o f0 p0) (At r1 o f0 p0) → Stepped r1 r2 o n f0 f1 p0 p1 e took → IsEndOf took end
+pub turn_ends : (r0 r1 r2 : RunParts) (o n : Option Store) (f0 f1 p0 p1 : ℕ) (e : Event) (took : Took) (end : Option Verdict) → IsNoFail e → RunGoesOn (At r0 o f0 p0) (At r1 o f0 p0) → Stepped r1 r2 o n f0 f1 p0 p1 e took → IsEndOf took end
     → IfSome end (HasEnded (At r0 o f0 p0) (At r2 n f1 p1))
 turn_ends r0 r1 r2 o n f0 f1 p0 p1 e took end plain mid h is =
     if_some_map (HasEnded (At r1 o f0 p0) (At r2 n f1 p1)) (HasEnded (At r0 o f0 p0) (At r2 n f1 p1)) end (λ v k. ends_after (At r0 o f0 p0) (At r1 o f0 p0) (At r2 n f1 p1) v mid k) (step_ended r1 r2 o n f0 f1 p0 p1 e took end plain mid.going h is)
 
 -- a step that was refused
-pub turn_refused : (r0 r1 r2 : RunParts) (o n : Option Store) (f0 f1 p0 p1 : ℕ) → GoesOn (At r0 o f0 p0) (At r1 o f0 p0) → r2 ≡ r1 → is_some n ≡ is_some o → (f0 ≤ f1) × (p0 ≤ p1)
-    → ((before : Named) → r1.phase ≢ Over → Told o (Stands r1.job before r1.past r1.notes) → Told n (Stands r1.job before r2.past r2.notes)) → GoesOn (At r0 o f0 p0) (At r2 n f1 p1)
+pub turn_refused : (r0 r1 r2 : RunParts) (o n : Option Store) (f0 f1 p0 p1 : ℕ) → RunGoesOn (At r0 o f0 p0) (At r1 o f0 p0) → r2 ≡ r1 → is_some n ≡ is_some o → (f0 ≤ f1) × (p0 ≤ p1)
+    → ((before : Named) → r1.phase ≢ Over → Told o (SinksStand r1.job before r1.past r1.notes) → Told n (SinksStand r1.job before r2.past r2.notes)) → RunGoesOn (At r0 o f0 p0) (At r2 n f1 p1)
 turn_refused r0 r1 r2 o n f0 f1 p0 p1 mid same told later store =
     goes_after (At r0 o f0 p0) (At r1 o f0 p0) (At r2 n f1 p1) mid (record {
       later = record { job = ap (λ r. r.job) same; told = told; faults = later.0; stops = later.1 };
@@ -242,13 +249,13 @@ turn_refused r0 r1 r2 o n f0 f1 p0 p1 mid same told later store =
     })
 
 -- what stands for one job and history stands for the same
-pub told_mid : (r0 r1 : RunParts) (o : Option Store) (before : Named) → r1.job ≡ r0.job → r1.past ≡ r0.past → r1.notes ≡ r0.notes → Told o (Stands r0.job before r0.past r0.notes) → Told o (Stands r1.job before r1.past r1.notes)
-told_mid r0 r1 o before job past notes h = subst (λ j. Told o (Stands j before r1.past r1.notes)) (sym job) (subst (λ (n : Notes). Told o (Stands r0.job before r1.past n)) (sym notes) (subst (λ (x : Past). Told o (Stands r0.job before x r0.notes)) (sym past) h))
+pub told_mid : (r0 r1 : RunParts) (o : Option Store) (before : Named) → r1.job ≡ r0.job → r1.past ≡ r0.past → r1.notes ≡ r0.notes → Told o (SinksStand r0.job before r0.past r0.notes) → Told o (SinksStand r1.job before r1.past r1.notes)
+told_mid r0 r1 o before job past notes h = subst (λ j. Told o (SinksStand j before r1.past r1.notes)) (sym job) (subst (λ (n : Notes). Told o (SinksStand r0.job before r1.past n)) (sym notes) (subst (λ (x : Past). Told o (SinksStand r0.job before x r0.notes)) (sym past) h))
 
-pub stands_on : (a b : Moment) (before : Named) → GoesOn a b → Told a.store (Stands a.job before a.past a.notes) → Told b.store (Stands b.job before b.past b.notes)
-stands_on a b before h told = subst (λ j. Told b.store (Stands j before b.past b.notes)) (sym h.later.job) (h.store before told)
+pub stands_on : (a b : Moment) (before : Named) → RunGoesOn a b → Told a.store (SinksStand a.job before a.past a.notes) → Told b.store (SinksStand b.job before b.past b.notes)
+stands_on a b before h told = subst (λ j. Told b.store (SinksStand j before b.past b.notes)) (sym h.later.job) (h.store before told)
 
-pub ended_at : (a b c : Moment) (end : Option Verdict) (v : Verdict) → end ≡ Some v → GoesOn a b → IfSome end (HasEnded b c) → HasEnded a c v
+pub ended_at : (a b c : Moment) (end : Option Verdict) (v : Verdict) → end ≡ Some v → RunGoesOn a b → IfSome end (HasEnded b c) → HasEnded a c v
 ended_at a b c end v is h k = ends_after a b c v h (subst (λ o. IfSome o (HasEnded b c)) is k)
 
 pub sure_at : (end : Option Verdict) (v : Verdict) → end ≡ Some v → IfSome end IsSure → IsSure v

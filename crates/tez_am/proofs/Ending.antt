@@ -21,7 +21,7 @@ use Rattle.tez_am.proofs.Accepting.{refusal_from, at_word}
 use Rattle.tez_am.proofs.Publishing.{all_published}
 use Rattle.tez_am.specs.declared.failure.Failure.{Failure}
 use Rattle.tez_am.specs.declared.failure.Failure.TheVariants.{Because, Spent}
-use Rattle.tez_am.specs.declared.status.Device.TheVariants as device
+use Rattle.tez_steps.specs.declared.verdict.Device.TheVariants as device
 use Rattle.tez_am.specs.declared.status.Status.{Status}
 use Rattle.tez_am.specs.declared.status.Status.TheVariants.{Succeeded, Usage, DagRefused, InputMissing, InputTooLarge, InputFault, SinkExists, AttemptsSpent, DeviceFault, MeaningUndefined, OutFault, NoMemory}
 

@@ -23,7 +23,7 @@ use Rattle.tez_laws.proofs.Sinks.{Rises, AllAbove}
 use Rattle.tez_sinks.specs.Sinks.{sink_of, sink_name, sink_entry, HasNoSink}
 use Rattle.tez_sinks.proofs.Names.{own_name, has_name, listed_sink, sinks_rise, entries_are, all_sinks}
 use Rattle.tez_world_invariant.specs.Store.{HasPublished}
-use Rattle.tez_world.specs.World.{first_published}
+use Rattle.tez_steps.specs.Step.{first_published}
 use Rattle.tez_am.specs.Call.{Stored}
 use Rattle.tez_am.specs.Publish.{publications, first_taken, is_sink, is_taken, sink_names, More, Publishes, PublishesPart}
 

@@ -16,14 +16,15 @@ use Rattle.tez_history.specs.History.{Past}
 use Rattle.tez_sinks.specs.Sinks.{sink_name, published_view, TasksWereStaged, HasNoSink}
 use Rattle.tez_world_invariant.specs.Store.{HasPublished, WasClear}
 use Rattle.tez_world.specs.Lawful.{IsTrace}
-use Rattle.tez_world.specs.World.{Down, Over, Notes, RunParts, Stands, StoreAfter}
+use Rattle.tez_steps.specs.Step.{Down, Over, Notes, SinksStand, StoreAfter}
+use Rattle.tez_world.specs.World.{RunParts}
 use Rattle.tez_world_invariant.proofs.EndsBegin.{begun_store}
-use Rattle.tez_world.specs.declared.verdict.Device.TheVariants as device
-use Rattle.tez_world.specs.declared.verdict.Verdict.{Verdict}
-use Rattle.tez_world.specs.declared.verdict.Verdict.TheVariants.{Succeeded, SinkExists, AttemptsSpent, DeviceFault}
-use Rattle.tez_world.specs.declared.verdict.Took.TheVariants.{Ended}
+use Rattle.tez_steps.specs.declared.verdict.Device.TheVariants as device
+use Rattle.tez_steps.specs.declared.verdict.Verdict.{Verdict}
+use Rattle.tez_steps.specs.declared.verdict.Verdict.TheVariants.{Succeeded, SinkExists, AttemptsSpent, DeviceFault}
+use Rattle.tez_steps.specs.declared.verdict.Took.TheVariants.{Ended}
 use Rattle.tez_am.specs.Call.{Stored}
-use Rattle.tez_am.specs.Drive.{GoesOn, HasEnded, IsVerdict, IsToldBy, IsSure, AnswersTo, ComesTo}
+use Rattle.tez_am.specs.Drive.{RunGoesOn, HasEnded, IsVerdict, IsToldBy, IsSure, AnswersTo, ComesTo}
 use Rattle.tez_am.specs.Publish.{Publishes, PublishesPart, RunCause}
 use Rattle.tez_am.specs.Run.{HasText}
 use Rattle.tez_am.specs.Say.{status_of}
@@ -31,7 +32,6 @@ use Rattle.tez_am.specs.Answer.{told_text, TellsSinks}
 use Rattle.tez_am.specs.Text.{name_of}
 use Rattle.tez_am.specs.declared.failure.Failure.{Failure}
 use Rattle.tez_am.specs.declared.failure.Failure.TheVariants.{Because, Spent}
-use Rattle.tez_am.specs.declared.status.Device.TheVariants as called
 use Rattle.tez_am.specs.declared.status.Status.TheVariants as status
 use Rattle.tez_am.proofs.Driving.{At}
 use Rattle.tez_am.proofs.Lines.{told_right}
@@ -47,19 +47,19 @@ first job c = record { job = job; conf = c; phase = Down; past = []; queue = [];
 pub is_going : (job : Job) (c : ConfValues) (r : RunParts) → r ≡ first job c → r.phase ≢ Over
 is_going job c r is over = let wrong : Down ≡ Over = sym (ap (λ x. x.phase) is) ∙ over in cc
 
-stands : (job : Job) (s : Store) → Stands job s.publications [] no_notes s
+stands : (job : Job) (s : Store) → SinksStand job s.publications [] no_notes s
 stands job s = record {
   store = begun_store job s;
   noted = record { rows = λ up. cc; texts = λ v sink ready. cc; sums = λ on. cc };
 }
 
-stands_told : (job : Job) (o : Option Store) (s : Store) → o ≡ Some s → Told o (Stands job s.publications [] no_notes)
-stands_told job o s e t k = let same : Some s ≡ Some t = sym e ∙ k in let one : s ≡ t = cc in subst (λ x. Stands job s.publications [] no_notes x) one (stands job s)
+stands_told : (job : Job) (o : Option Store) (s : Store) → o ≡ Some s → Told o (SinksStand job s.publications [] no_notes)
+stands_told job o s e t k = let same : Some s ≡ Some t = sym e ∙ k in let one : s ≡ t = cc in subst (λ x. SinksStand job s.publications [] no_notes x) one (stands job s)
 
 -- for some publications before it
-pub stands_first : (job : Job) (c : ConfValues) (r : RunParts) (o : Option Store) → r ≡ first job c → (before : Named) × Told o (Stands r.job before r.past r.notes)
+pub stands_first : (job : Job) (c : ConfValues) (r : RunParts) (o : Option Store) → r ≡ first job c → (before : Named) × Told o (SinksStand r.job before r.past r.notes)
 stands_first job c r None is = ([], λ t k. cc)
-stands_first job c r (Some s) is = (s.publications, subst (λ x. Told (Some s) (Stands x.job s.publications x.past x.notes)) (sym is) (stands_told job (Some s) s refl))
+stands_first job c r (Some s) is = (s.publications, subst (λ x. Told (Some s) (SinksStand x.job s.publications x.past x.notes)) (sym is) (stands_told job (Some s) s refl))
 
 -- ---- what it published
 
@@ -149,20 +149,20 @@ module _ (job : Job) (c : ConfValues) (r0 r1 : RunParts) (old new : Option Store
     )
     | inr short ↦ because f (Because status.NoMemory) short (part_at (AttemptsSpent t) h)
   ]
-  cause_at (DeviceFault device.Store) f to h = because f (Because (status.DeviceFault called.Store)) to (h.right.1, part_at (DeviceFault device.Store) h)
+  cause_at (DeviceFault device.Store) f to h = because f (Because (status.DeviceFault device.Store)) to (h.right.1, part_at (DeviceFault device.Store) h)
   cause_at (DeviceFault device.Disk) f to h = let wrong = h.right.0 in cc
 
   pub cause_of : (v : Verdict) (f : Failure) → AnswersTo job v f → HasEnded (At r0 old f0 p0) (At r1 new f1 p1) v → Because_of f
   cause_of v f to h = cause_at v f to (from_first v h)
 
   -- memory was short in a turn
-  pub short_of : GoesOn (At r0 old f0 p0) (At r1 new f1 p1) → ((before : Named) (s : Store) → r1.phase ≢ Over → Stands r1.job before r1.past r1.notes s → HasPublished r1.job before s) → PublishesPart job kept
+  pub short_of : RunGoesOn (At r0 old f0 p0) (At r1 new f1 p1) → ((before : Named) (s : Store) → r1.phase ≢ Over → SinksStand r1.job before r1.past r1.notes s → HasPublished r1.job before s) → PublishesPart job kept
   short_of h in_order =
-      let on : GoesOn (At (first job c) old f0 p0) (At r1 new f1 p1) = subst (λ r. GoesOn (At r old f0 p0) (At r1 new f1 p1)) is h in
+      let on : RunGoesOn (At (first job c) old f0 p0) (At r1 new f1 p1) = subst (λ r. RunGoesOn (At r old f0 p0) (At r1 new f1 p1)) is h in
       let same : r1.job ≡ job = on.later.job in
       part_told job kept valid on.later.told (λ s e t k.
       subst (λ j. HasPublished j s.publications t) same
-      (in_order s.publications t on.going (subst (λ j. Stands j s.publications r1.past r1.notes t) (sym same) (on.store s.publications (stands_told job old s e) t k))))
+      (in_order s.publications t on.going (subst (λ j. SinksStand j s.publications r1.past r1.notes t) (sym same) (on.store s.publications (stands_told job old s e) t k))))
 
   pub same_job : (v : Verdict) → HasEnded (At r0 old f0 p0) (At r1 new f1 p1) v → r1.job ≡ job
   same_job v h = h.later.job ∙ ap (λ r. r.job) is
@@ -176,10 +176,10 @@ pub text_of_failure : (job : Job) (v : Verdict) (f : Failure) → AnswersTo job 
 text_of_failure job (Succeeded pairs) f to = named_text job f (Because status.NoMemory) to tt
 text_of_failure job (SinkExists v) f to = elim to [ inl named ↦ named_text job f (Because (status.SinkExists (sink_name job.plan v.0))) named tt | inr short ↦ named_text job f (Because status.NoMemory) short tt ]
 text_of_failure job (AttemptsSpent t) f to = elim to [ inl named ↦ named_text job f (Spent t.vertex t.index (name_of job.plan t.vertex.0)) named refl | inr short ↦ named_text job f (Because status.NoMemory) short tt ]
-text_of_failure job (DeviceFault device.Store) f to = named_text job f (Because (status.DeviceFault called.Store)) to tt
-text_of_failure job (DeviceFault device.Disk) f to = named_text job f (Because (status.DeviceFault called.Disk)) to tt
+text_of_failure job (DeviceFault device.Store) f to = named_text job f (Because (status.DeviceFault device.Store)) to tt
+text_of_failure job (DeviceFault device.Disk) f to = named_text job f (Because (status.DeviceFault device.Disk)) to tt
 
-pub sure_failure : (job : Job) (v : Verdict) (f : Failure) → IsSure v → AnswersTo job v f → status_of f ≢ status.DeviceFault called.Store
+pub sure_failure : (job : Job) (v : Verdict) (f : Failure) → IsSure v → AnswersTo job v f → status_of f ≢ status.DeviceFault device.Store
 sure_failure job (Succeeded pairs) f sure to = λ e. let is = to in cc
 sure_failure job (SinkExists v) f sure to = elim to [ inl named ↦ (λ e. let is = named in cc) | inr short ↦ (λ e. let is = short in cc) ]
 sure_failure job (AttemptsSpent t) f sure to = elim to [ inl named ↦ (λ e. let is = named in cc) | inr short ↦ (λ e. let is = short in cc) ]
@@ -194,8 +194,8 @@ pub record RunEnds (job : Job) (store : Stored) (answer : Result (List ℕ) Fail
   pub failure_text : IfErr answer (HasText job)
 
 pub run_ends : {E : Type 0} (job : Job) (c : ConfValues) (r0 r1 : RunParts) (old new : Option Store) (f0 f1 p0 p1 : ℕ) → r0 ≡ first job c → IsValid job.plan → (ended : Result Verdict E) (answer : Result (List ℕ) Failure)
-    → IfOk ended (HasEnded (At r0 old f0 p0) (At r1 new f1 p1)) → OnErr ended (GoesOn (At r0 old f0 p0) (At r1 new f1 p1))
-    → ((before : Named) (s : Store) → r1.phase ≢ Over → Stands r1.job before r1.past r1.notes s → HasPublished r1.job before s) → (j : Job) → j ≡ job → ComesTo j ended answer
+    → IfOk ended (HasEnded (At r0 old f0 p0) (At r1 new f1 p1)) → OnErr ended (RunGoesOn (At r0 old f0 p0) (At r1 new f1 p1))
+    → ((before : Named) (s : Store) → r1.phase ≢ Over → SinksStand r1.job before r1.past r1.notes s → HasPublished r1.job before s) → (j : Job) → j ≡ job → ComesTo j ended answer
     → RunEnds job (record { old = old; new = new; before = f0; now = f1; stops_before = p0; stops_now = p1 }) answer
 run_ends job c r0 r1 old new f0 f1 p0 p1 is valid (Ok v) (Ok text) h on in_order j one to =
     let told : IsToldBy job v text = subst (λ x. IsToldBy x v text) one to in
@@ -228,13 +228,13 @@ pub staged_later : (job : Job) (o : Option Store) (answer : Result (List ℕ) Fa
 staged_later job o (Ok text) past later is h = subst (λ (p : Past). Told o (λ t. TasksWereStaged job p t.stage_calls)) (sym is) h
 staged_later job o (Err f) past later is h = tt
 
-pub run_sure : {E : Type 0} (job : Job) (ended : Result Verdict E) (answer : Result (List ℕ) Failure) → IfOk ended IsSure → ComesTo job ended answer → IfErr answer (λ f. status_of f ≢ status.DeviceFault called.Store)
+pub run_sure : {E : Type 0} (job : Job) (ended : Result Verdict E) (answer : Result (List ℕ) Failure) → IfOk ended IsSure → ComesTo job ended answer → IfErr answer (λ f. status_of f ≢ status.DeviceFault device.Store)
 run_sure job (Ok v) (Ok text) sure to = tt
 run_sure job (Ok v) (Err f) sure to = sure_failure job v f sure to
 run_sure job (Err e) (Ok text) sure to = absurd to
 run_sure job (Err e) (Err f) sure to = λ is. let same = to in cc
 
-pub run_same : {E : Type 0} (job : Job) (c : ConfValues) (r0 r1 : RunParts) (old new : Option Store) (f0 f1 p0 p1 : ℕ) → r0 ≡ first job c → (ended : Result Verdict E) → IfOk ended (HasEnded (At r0 old f0 p0) (At r1 new f1 p1)) → OnErr ended (GoesOn (At r0 old f0 p0) (At r1 new f1 p1)) → r1.job ≡ job
+pub run_same : {E : Type 0} (job : Job) (c : ConfValues) (r0 r1 : RunParts) (old new : Option Store) (f0 f1 p0 p1 : ℕ) → r0 ≡ first job c → (ended : Result Verdict E) → IfOk ended (HasEnded (At r0 old f0 p0) (At r1 new f1 p1)) → OnErr ended (RunGoesOn (At r0 old f0 p0) (At r1 new f1 p1)) → r1.job ≡ job
 run_same job c r0 r1 old new f0 f1 p0 p1 is (Ok v) h on = h.later.job ∙ ap (λ r. r.job) is
 run_same job c r0 r1 old new f0 f1 p0 p1 is (Err e) h on = on.later.job ∙ ap (λ r. r.job) is
 

@@ -12,7 +12,7 @@ use Rattle.tez_am.specs.Publish.{first_taken}
 use Rattle.tez_am.specs.Rows.{IsAnswerOfReads, IsAnswerOfRun, IsAnswerOfSpent, KeepsRows}
 use Rattle.tez_am.specs.Words.{dag_word}
 use Rattle.tez_am.proofs.Accepting.{no_dag, one_job}
-use Rattle.tez_am.specs.declared.status.Device.TheVariants as device
+use Rattle.tez_steps.specs.declared.verdict.Device.TheVariants as device
 use Rattle.tez_am.specs.declared.status.Status.{Status}
 use Rattle.tez_am.specs.declared.status.Status.TheVariants.{Succeeded, Usage, DagRefused, InputMissing, InputTooLarge, InputFault, SinkExists, AttemptsSpent, DeviceFault, MeaningUndefined, OutFault, NoMemory}
 

@@ -15,7 +15,7 @@ use Rattle.tez_am.specs.Publish.{SamePublications, Publishes, PublishesPart, fir
 use Rattle.tez_am.specs.Answer.{TellsSinks}
 use Rattle.tez_am.specs.Text.{spent_text, status_text}
 use Rattle.tez_am.specs.Words.{dag_word}
-use Rattle.tez_am.specs.declared.status.Device.TheVariants as device
+use Rattle.tez_steps.specs.declared.verdict.Device.TheVariants as device
 use Rattle.tez_am.specs.declared.status.Status.{Status}
 use Rattle.tez_am.specs.declared.status.Status.TheVariants.{Succeeded, Usage, DagRefused, InputMissing, InputTooLarge, InputFault, SinkExists, AttemptsSpent, DeviceFault, MeaningUndefined, OutFault, NoMemory}
 

@@ -1,6 +1,6 @@
 -- How a call drives the run of its job.
 --     Moment                    a run, with what its store tells and counts
---     GoesOn old new            a run that has not ended, some turns later
+--     RunGoesOn old new         a run that has not ended, some turns later
 --     IsVerdict .. v            what a verdict says of the job and its store
 --     HasEnded old new v        a run that has ended so
 --     AnswersTo job v f         the failure that a verdict comes to
@@ -16,21 +16,19 @@ use Rattle.tez_history.specs.Shape.{has_sink}
 use Rattle.tez_history.specs.History.{Past}
 use Rattle.tez_sinks.specs.Sinks.{sink_name}
 use Rattle.tez_world_invariant.specs.Store.{IsSuccess}
-use Rattle.tez_world.specs.World.{Phase, Over, Notes, RunParts, Stands, StoreAfter}
-use Rattle.tez_world.specs.declared.event.Event.{Event}
-use Rattle.tez_world.specs.declared.event.Event.TheVariants.{Core}
-use Rattle.tez_world.specs.declared.verdict.Device.{Device}
-use Rattle.tez_world.specs.declared.verdict.Device.TheVariants as device
-use Rattle.tez_world.specs.declared.verdict.Verdict.{Verdict}
-use Rattle.tez_world.specs.declared.verdict.Verdict.TheVariants.{Succeeded, SinkExists, AttemptsSpent, DeviceFault}
-use Rattle.tez_world.specs.declared.verdict.Took.{Took}
-use Rattle.tez_world.specs.declared.verdict.Took.TheVariants.{Changed, Ignored, Ended}
+use Rattle.tez_steps.specs.Step.{Phase, Over, Notes, SinksStand, StoreAfter}
+use Rattle.tez_world.specs.World.{RunParts}
+use Rattle.tez_steps.specs.declared.event.Event.{Event}
+use Rattle.tez_steps.specs.declared.event.Event.TheVariants.{Core}
+use Rattle.tez_steps.specs.declared.verdict.Device.TheVariants as device
+use Rattle.tez_steps.specs.declared.verdict.Verdict.{Verdict}
+use Rattle.tez_steps.specs.declared.verdict.Verdict.TheVariants.{Succeeded, SinkExists, AttemptsSpent, DeviceFault}
+use Rattle.tez_steps.specs.declared.verdict.Took.{Took}
+use Rattle.tez_steps.specs.declared.verdict.Took.TheVariants.{Changed, Ignored, Ended}
 use Rattle.tez_am.specs.Answer.{told_text}
 use Rattle.tez_am.specs.Text.{name_of}
 use Rattle.tez_am.specs.declared.failure.Failure.{Failure}
 use Rattle.tez_am.specs.declared.failure.Failure.TheVariants.{Because, Spent}
-use Rattle.tez_am.specs.declared.status.Device.{Device as StatusDevice}
-use Rattle.tez_am.specs.declared.status.Device.TheVariants as called
 use Rattle.tez_am.specs.declared.status.Status.TheVariants as status
 
 pub record Moment : Type 0 where
@@ -56,10 +54,10 @@ pub record Later (old new : Moment) : Type 0 where
   pub faults : old.faults ≤ new.faults
   pub stops : old.stops ≤ new.stops
 
-pub record GoesOn (old new : Moment) : Type 0 where
+pub record RunGoesOn (old new : Moment) : Type 0 where
   pub later : Later old new
   pub going : new.phase ≢ Over
-  pub store : (before : Named) → Told old.store (Stands old.job before old.past old.notes) → Told new.store (Stands old.job before new.past new.notes)
+  pub store : (before : Named) → Told old.store (SinksStand old.job before old.past old.notes) → Told new.store (SinksStand old.job before new.past new.notes)
 
 abbrev pub IsVerdict : Moment → Moment → Verdict → Type 0
 IsVerdict old new (Succeeded pairs) = IsSuccess old.job (sums old.job) new.past
@@ -70,7 +68,7 @@ IsVerdict old new (DeviceFault d) = (d ≡ device.Store) × (Rose old.faults new
 pub record HasEnded (old new : Moment) (v : Verdict) : Type 0 where
   pub later : Later old new
   pub right : IsVerdict old new v
-  pub store : (before : Named) → Told old.store (Stands old.job before old.past old.notes) → Told new.store (StoreAfter old.job before (Ended v) new.past new.notes)
+  pub store : (before : Named) → Told old.store (SinksStand old.job before old.past old.notes) → Told new.store (StoreAfter old.job before (Ended v) new.past new.notes)
 
 abbrev pub IsEndOf : Took → Option Verdict → Type 0
 IsEndOf Changed end = end ≡ None
@@ -93,16 +91,12 @@ IsToldBy job (SinkExists v) text = ⊥
 IsToldBy job (AttemptsSpent t) text = ⊥
 IsToldBy job (DeviceFault d) text = ⊥
 
-abbrev pub device_of : Device → StatusDevice
-device_of device.Disk = called.Disk
-device_of device.Store = called.Store
-
 -- or memory is short
 abbrev pub AnswersTo : Job → Verdict → Failure → Type 0
 AnswersTo job (Succeeded pairs) f = f ≡ Because status.NoMemory
 AnswersTo job (SinkExists v) f = (f ≡ Because (status.SinkExists (sink_name job.plan v.0))) ⊎ (f ≡ Because status.NoMemory)
 AnswersTo job (AttemptsSpent t) f = (f ≡ Spent t.vertex t.index (name_of job.plan t.vertex.0)) ⊎ (f ≡ Because status.NoMemory)
-AnswersTo job (DeviceFault d) f = f ≡ Because (status.DeviceFault (device_of d))
+AnswersTo job (DeviceFault d) f = f ≡ Because (status.DeviceFault d)
 
 -- a text, where it succeeded, or a failure
 abbrev pub ComesTo : {E : Type 0} → Job → Result Verdict E → Result (List ℕ) Failure → Type 0

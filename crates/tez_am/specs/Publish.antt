@@ -11,7 +11,7 @@ use Rattle.tez_meaning.specs.Value.{sinks, sink_texts, bad, IsDefined}
 use Rattle.tez_meaning.specs.Published.{IsPublishedOnce, IsPublishedAtMostOnce}
 use Rattle.tez_plan.specs.Dag.{Dag}
 use Rattle.tez_am.specs.Call.{Stored, StoreFailed}
-use Rattle.tez_am.specs.declared.status.Device.TheVariants as device
+use Rattle.tez_steps.specs.declared.verdict.Device.TheVariants as device
 use Rattle.tez_am.specs.declared.status.Status.{Status}
 use Rattle.tez_am.specs.declared.status.Status.TheVariants.{SinkExists, AttemptsSpent, DeviceFault, NoMemory}
 

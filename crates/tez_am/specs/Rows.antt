@@ -6,7 +6,7 @@ use Rattle.tez_meaning.specs.Jobs.{Job}
 use Rattle.tez_meaning.specs.Value.{bad, IsDefined}
 use Rattle.tez_am.specs.Accept.{IsAccepted}
 use Rattle.tez_am.specs.Publish.{first_taken}
-use Rattle.tez_am.specs.declared.status.Device.TheVariants as device
+use Rattle.tez_steps.specs.declared.verdict.Device.TheVariants as device
 use Rattle.tez_am.specs.declared.status.Status.{Status}
 use Rattle.tez_am.specs.declared.status.Status.TheVariants.{Succeeded, InputFault, SinkExists, AttemptsSpent, DeviceFault, OutFault, NoMemory}
 

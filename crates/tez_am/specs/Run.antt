@@ -9,10 +9,10 @@ use Rattle.tez_am.specs.declared.status.Status.{Status}
 use Rattle.tez_am.specs.declared.status.Status.TheVariants.{AttemptsSpent}
 
 -- a failure that is an answer by itself has the text of that answer
-abbrev pub IsPlain : Status → Type 0
-IsPlain (AttemptsSpent vertex task) = ⊥
-IsPlain _ = ⊤
+abbrev pub IsBareStatus : Status → Type 0
+IsBareStatus (AttemptsSpent vertex task) = ⊥
+IsBareStatus _ = ⊤
 
 abbrev pub HasText : Job → Failure → Type 0
-HasText job (Because status) = IsPlain status
+HasText job (Because status) = IsBareStatus status
 HasText job (Spent vertex task name) = name ≡ name_of job.plan vertex.0

@@ -8,7 +8,7 @@ use Rattle.tez_dag_json.specs.declared.fault.DagFault.TheVariants as dag
 use Rattle.tez_plan.specs.Dag.{Dag}
 use Rattle.tez_meaning.specs.Jobs.{Job}
 use Rattle.tez_am.specs.Meaning.{summary}
-use Rattle.tez_am.specs.declared.status.Device.TheVariants.{Disk, Store}
+use Rattle.tez_steps.specs.declared.verdict.Device.TheVariants.{Disk, Store}
 use Rattle.tez_am.specs.declared.status.Status.{Status}
 use Rattle.tez_am.specs.declared.status.Status.TheVariants.{Succeeded, Usage, DagRefused, InputMissing, InputTooLarge, InputFault, SinkExists, AttemptsSpent, DeviceFault, MeaningUndefined, OutFault, NoMemory}
 

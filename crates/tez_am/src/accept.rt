@@ -22,7 +22,8 @@ const DAG_LIMIT: u64 = 1_048_576;
 /// What the bytes of a DAG file say.
 fn dag(alloc: Global, bytes: &[u8]) -> Result<(Plan, Conf), Status>
     ensures said { IfOk result (λ said. IsDue bytes.now (Ok said)) }
-    ensures refusal { IfErr result (λ s. (s ≡ Status.NoMemory) ⊎ ((fault : DagFault) × (s ≡ Status.DagRefused fault) × IsDue bytes.now (Err fault))) }
+    ensures refusal { IfErr result (λ s. (s ≡ Status.NoMemory)
+        ⊎ ((fault : DagFault) × (s ≡ Status.DagRefused fault) × IsDue bytes.now (Err fault))) }
 {
     match read_dag(alloc, bytes) {
         Ok(said) => Ok(said),
@@ -42,7 +43,8 @@ pub fn read_plan<F: InputFiles>(
     ensures stays_sure { F.is_sure files.old → F.is_sure files.new }
     ensures said { IfOk result (λ said. Told (F.files files.old) (λ m. IsDag (Some word.now) m (Ok said))) }
     ensures valid { IfOk result (λ said. IsValid said.0) }
-    ensures refusal { IfErr result (Refusal (IsDag (Some word.now)) (reads_of F.files F.faults F.failed files.old files.new)) }
+    ensures refusal { IfErr result
+        (Refusal (IsDag (Some word.now)) (reads_of F.files F.faults F.failed files.old files.new)) }
     ensures sure { F.is_sure files.old → IfErr result (λ s. (n : List ℕ) → s ≢ Status.InputFault n) }
 {
     let bytes = match input(alloc, files, word, DAG_LIMIT) {
@@ -63,9 +65,11 @@ pub fn accept<F: InputFiles>(
 ) -> Result<(Job, Conf), Status>
     ensures same { F.files files.new ≡ F.files files.old }
     ensures job { IfOk result (λ said. Told (F.files files.old) (λ m. IsJob (Some word.now) m (Ok said.0))) }
-    ensures conf { IfOk result (λ said. Told (F.files files.old) (λ m. IsDag (Some word.now) m (Ok (said.0.plan, said.1)))) }
+    ensures conf { IfOk result
+        (λ said. Told (F.files files.old) (λ m. IsDag (Some word.now) m (Ok (said.0.plan, said.1)))) }
     ensures valid { IfOk result (λ said. IsValid said.0.plan) }
-    ensures refusal { IfErr result (Refusal (IsJob (Some word.now)) (reads_of F.files F.faults F.failed files.old files.new)) }
+    ensures refusal { IfErr result
+        (Refusal (IsJob (Some word.now)) (reads_of F.files F.faults F.failed files.old files.new)) }
     ensures sure { F.is_sure files.old → IfErr result (λ s. (n : List ℕ) → s ≢ Status.InputFault n) }
 {
     let (plan, conf) = match read_plan(alloc, word, files) {

@@ -2,11 +2,11 @@
 ghost use Rattle.std.specs.Prelude.{◌≡◌, ◌⊎◌, ◌++◌, [], unwrap_or, IfOk, IfErr, OnOk};
 ghost use Rattle.tez_sinks.specs.Sinks.{sink_name as sink_name_of};
 ghost use Rattle.tez_am.specs.Answer.{lines_for, told_text};
-ghost use Rattle.tez_am.specs.Drive.{AnswersTo, IsToldBy, device_of};
+ghost use Rattle.tez_am.specs.Drive.{AnswersTo, IsToldBy};
 ghost use Rattle.tez_am.specs.Text.{name_of};
 
 use crate::failure::Failure;
-use crate::status::{Device, Status};
+use crate::status::Status;
 use crate::text::sink_line;
 use std::alloc::{AllocError, Global};
 use tez_ids::{Bytes, Name, TaskId, VertexId};
@@ -44,7 +44,8 @@ fn sink_name(alloc: Global, job: &Job, v: VertexId) -> Result<Name, AllocError>
 }
 
 fn exists(alloc: Global, job: &Job, v: VertexId) -> Failure
-    ensures { (result ≡ Failure.Because (Status.SinkExists (sink_name_of job.now.plan v.0))) ⊎ (result ≡ Failure.Because Status.NoMemory) }
+    ensures { (result ≡ Failure.Because (Status.SinkExists (sink_name_of job.now.plan v.0)))
+        ⊎ (result ≡ Failure.Because Status.NoMemory) }
 {
     match sink_name(alloc, job, v) {
         Ok(sink) => Failure::Because(Status::SinkExists(sink)),
@@ -53,7 +54,8 @@ fn exists(alloc: Global, job: &Job, v: VertexId) -> Failure
 }
 
 fn spent(alloc: Global, job: &Job, t: TaskId) -> Failure
-    ensures { (result ≡ Failure.Spent t.vertex t.index (name_of job.now.plan t.vertex.0)) ⊎ (result ≡ Failure.Because Status.NoMemory) }
+    ensures { (result ≡ Failure.Spent t.vertex t.index (name_of job.now.plan t.vertex.0))
+        ⊎ (result ≡ Failure.Because Status.NoMemory) }
 {
     match vertex_name(alloc, job, t.vertex) {
         Ok(name) => Failure::Spent {
@@ -62,15 +64,6 @@ fn spent(alloc: Global, job: &Job, t: TaskId) -> Failure
             name,
         },
         Err(_) => Failure::Because(Status::NoMemory),
-    }
-}
-
-fn called(device: tez_world::Device) -> Device
-    ensures { result ≡ device_of device }
-{
-    match device {
-        tez_world::Device::Disk => Device::Disk,
-        tez_world::Device::Store => Device::Store,
     }
 }
 
@@ -118,6 +111,6 @@ pub fn answer(alloc: Global, job: &Job, verdict: Verdict) -> Result<Bytes, Failu
         },
         Verdict::SinkExists(v) => Err(exists(alloc, job, v)),
         Verdict::AttemptsSpent(t) => Err(spent(alloc, job, t)),
-        Verdict::DeviceFault(device) => Err(Failure::Because(Status::DeviceFault(called(device)))),
+        Verdict::DeviceFault(device) => Err(Failure::Because(Status::DeviceFault(device))),
     }
 }

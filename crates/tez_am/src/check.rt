@@ -27,7 +27,8 @@ fn text(alloc: Global, plan: &Plan, conf: &Conf) -> Result<Bytes, AllocError>
 /// What is to be said of the DAG file of this name.
 pub fn check<F: InputFiles>(alloc: Global, word: &str, files: &mut F) -> Result<Bytes, Status>
     ensures text { IfOk result (Checks (Some word.now) (F.files files.old)) }
-    ensures refusal { IfErr result (Refusal (IsDag (Some word.now)) (reads_of F.files F.faults F.failed files.old files.new)) }
+    ensures refusal { IfErr result
+        (Refusal (IsDag (Some word.now)) (reads_of F.files F.faults F.failed files.old files.new)) }
     ensures sure { F.is_sure files.old → IfErr result (λ s. (n : List ℕ) → s ≢ Status.InputFault n) }
 {
     let (plan, conf) = match read_plan(alloc, word, files) {

@@ -1,8 +1,8 @@
 // The run of a job, driven to its end.
 ghost use Rattle.std.specs.Prelude.{◌≡◌, ◌≢◌, OnErr, IfOk, IfSome, None};
 ghost use Rattle.tez_ports.specs.Content.{Named, Told};
-ghost use Rattle.tez_world.specs.World.{Over, Stands};
-ghost use Rattle.tez_am.specs.Drive.{GoesOn, HasEnded, IsEndOf, IsNoFail, IsSure, moment};
+ghost use Rattle.tez_steps.specs.Step.{Over, SinksStand};
+ghost use Rattle.tez_am.specs.Drive.{RunGoesOn, HasEnded, IsEndOf, IsNoFail, IsSure, moment};
 
 use std::alloc::{AllocError, Global};
 use tez_orders::work;
@@ -43,11 +43,21 @@ fn turn<S: OutputStore>(
 ) -> Result<Option<Verdict>, AllocError>
     requires { run.old.phase ≢ Over }
     ensures conf { run.new.conf ≡ run.old.conf }
-    ensures goes_on { IfOk result (λ end. end ≡ None → GoesOn (moment S.store S.faults S.stops run.old store.old) (moment S.store S.faults S.stops run.new store.new)) }
-    ensures ended { IfOk result (λ end. IfSome end (HasEnded (moment S.store S.faults S.stops run.old store.old) (moment S.store S.faults S.stops run.new store.new))) }
-    ensures refused { OnErr result (GoesOn (moment S.store S.faults S.stops run.old store.old) (moment S.store S.faults S.stops run.new store.new)) }
+    ensures goes_on { IfOk result (λ end. end ≡ None
+        → RunGoesOn (moment S.store S.faults S.stops run.old store.old)
+        (moment S.store S.faults S.stops run.new store.new)) }
+    ensures ended { IfOk result
+        (λ end. IfSome end
+        (HasEnded (moment S.store S.faults S.stops run.old store.old)
+        (moment S.store S.faults S.stops run.new store.new))) }
+    ensures refused { OnErr result
+        (RunGoesOn (moment S.store S.faults S.stops run.old store.old)
+        (moment S.store S.faults S.stops run.new store.new)) }
+    ensures lent { S.lent store.new ≡ S.lent store.old }
     ensures stays_sure { S.is_sure store.old → S.is_sure store.new }
-    ensures sure { (before : Named) → S.is_sure store.old → Told (S.store store.old) (Stands run.old.job before run.old.past run.old.notes) → IfOk result (λ end. IfSome end IsSure) }
+    ensures sure { (before : Named) → S.is_sure store.old
+        → Told (S.store store.old) (SinksStand run.old.job before run.old.past run.old.notes)
+        → IfOk result (λ end. IfSome end IsSure) }
 {
     let Some(event) = coming(alloc, run) else {
         return Err(AllocError);
@@ -66,9 +76,15 @@ pub fn drive<S: OutputStore>(
 ) -> Result<Verdict, AllocError>
     requires { run.old.phase ≢ Over }
     ensures conf { run.new.conf ≡ run.old.conf }
-    ensures ended { IfOk result (HasEnded (moment S.store S.faults S.stops run.old store.old) (moment S.store S.faults S.stops run.new store.new)) }
-    ensures refused { OnErr result (GoesOn (moment S.store S.faults S.stops run.old store.old) (moment S.store S.faults S.stops run.new store.new)) }
-    ensures sure { (before : Named) → S.is_sure store.old → Told (S.store store.old) (Stands run.old.job before run.old.past run.old.notes) → IfOk result IsSure }
+    ensures ended { IfOk result
+        (HasEnded (moment S.store S.faults S.stops run.old store.old)
+        (moment S.store S.faults S.stops run.new store.new)) }
+    ensures refused { OnErr result
+        (RunGoesOn (moment S.store S.faults S.stops run.old store.old)
+        (moment S.store S.faults S.stops run.new store.new)) }
+    ensures lent { S.lent store.new ≡ S.lent store.old }
+    ensures sure { (before : Named) → S.is_sure store.old
+        → Told (S.store store.old) (SinksStand run.old.job before run.old.past run.old.notes) → IfOk result IsSure }
 {
     for _turn in 0..u64::MAX {
         match turn(alloc, run, store) {

@@ -22,7 +22,8 @@ pub fn input<F: InputFiles>(
     ensures stays_sure { F.is_sure files.old → F.is_sure files.new }
     ensures fits { IfOk result (λ v. length v.items ≤ limit) }
     ensures bytes { IfOk result (λ v. Told (F.files files.old) (λ m. content name.now limit m ≡ Ok v.items)) }
-    ensures refusal { IfErr result (Refusal (IsContent name.now limit) (reads_of F.files F.faults F.failed files.old files.new)) }
+    ensures refusal { IfErr result
+        (Refusal (IsContent name.now limit) (reads_of F.files F.faults F.failed files.old files.new)) }
     ensures sure { F.is_sure files.old → IfErr result (λ s. (n : List ℕ) → s ≢ Status.InputFault n) }
 {
     match files.read(alloc, name, limit) {

@@ -17,6 +17,7 @@ mod tool;
 mod top;
 mod words;
 
-pub use status::{Device, Status, exit_code};
+pub use status::{Status, exit_code};
+pub use tez_world::Device;
 pub use tool::am_tool;
 pub use top::am_run;

@@ -68,7 +68,8 @@ fn meaning_text(alloc: Global, job: &Job) -> Result<Bytes, Status>
     ensures text { IfOk result (λ text. meant job.now ≡ Ok text) }
     ensures defined { IfOk result (λ text. IsDefined job.now) }
     ensures kind { IfOk result (λ text. text ≡ meaning_text_of job.now) }
-    ensures undefined { IfErr result (λ s. (s ≡ Status.NoMemory) ⊎ ((name : List ℕ) × (s ≡ Status.MeaningUndefined name) × (meant job.now ≡ Err s))) }
+    ensures undefined { IfErr result (λ s. (s ≡ Status.NoMemory)
+        ⊎ ((name : List ℕ) × (s ≡ Status.MeaningUndefined name) × (meant job.now ≡ Err s))) }
     ensures no_fault { IfErr result (λ s. (n : List ℕ) → s ≢ Status.InputFault n) }
 {
     match tez_meaning::meaning(alloc, job) {
@@ -84,7 +85,8 @@ fn meaning_text(alloc: Global, job: &Job) -> Result<Bytes, Status>
 /// What is to be said of the meaning of the DAG file of this name.
 pub fn meaning<F: InputFiles>(alloc: Global, word: &str, files: &mut F) -> Result<Bytes, Status>
     ensures text { IfOk result (λ text. Means (Some word.now) (F.files files.old) text) }
-    ensures refusal { IfErr result (ToolRefusal (AfterDag meaning_of (Some word.now)) (reads_of F.files F.faults F.failed files.old files.new)) }
+    ensures refusal { IfErr result
+        (ToolRefusal (AfterDag meaning_of (Some word.now)) (reads_of F.files F.faults F.failed files.old files.new)) }
     ensures sure { F.is_sure files.old → IfErr result (λ s. (n : List ℕ) → s ≢ Status.InputFault n) }
 {
     let (job, _conf) = match accept(alloc, word, files) {

@@ -50,9 +50,13 @@ fn read_sources<F: InputFiles>(
     ensures same { F.files files.new ≡ F.files files.old }
     ensures later { F.faults files.old ≤ F.faults files.new }
     ensures stays_sure { F.is_sure files.old → F.is_sure files.new }
-    ensures names { IfOk result (λ read. names_of read.items ≡ names_of sources.items ++ names_after (names_of sources.items) vertices.now) }
-    ensures read { IfOk result (λ read. Told (F.files files.old) (λ m. contents_after m left sources.items vertices.now ≡ Ok read.items)) }
-    ensures refusal { IfErr result (Refusal (λ m answer. contents_after m left sources.items vertices.now ≡ answer) (reads_of F.files F.faults F.failed files.old files.new)) }
+    ensures names { IfOk result (λ read. names_of read.items
+        ≡ names_of sources.items ++ names_after (names_of sources.items) vertices.now) }
+    ensures read { IfOk result
+        (λ read. Told (F.files files.old) (λ m. contents_after m left sources.items vertices.now ≡ Ok read.items)) }
+    ensures refusal { IfErr result
+        (Refusal (λ m answer. contents_after m left sources.items vertices.now ≡ answer)
+        (reads_of F.files F.faults F.failed files.old files.new)) }
     ensures sure { F.is_sure files.old → IfErr result (λ s. (n : List ℕ) → s ≢ Status.InputFault n) }
 {
     let Some((vertex, rest)) = vertices.split_first() else {
@@ -83,7 +87,8 @@ pub fn job_of<F: InputFiles>(alloc: Global, plan: Plan, files: &mut F) -> Result
     ensures stays_sure { F.is_sure files.old → F.is_sure files.new }
     ensures plan { IfOk result (λ job. job.plan ≡ plan) }
     ensures job { IfOk result (λ job. Told (F.files files.old) (λ m. with_sources m plan ≡ Ok job)) }
-    ensures refusal { IfErr result (Refusal (λ m answer. with_sources m plan ≡ answer) (reads_of F.files F.faults F.failed files.old files.new)) }
+    ensures refusal { IfErr result
+        (Refusal (λ m answer. with_sources m plan ≡ answer) (reads_of F.files F.faults F.failed files.old files.new)) }
     ensures sure { F.is_sure files.old → IfErr result (λ s. (n : List ℕ) → s ≢ Status.InputFault n) }
 {
     match read_sources(alloc, files, plan.vertices(), SOURCE_LIMIT, Vec::new(alloc)) {

@@ -3,13 +3,7 @@ ghost use Rattle.tez_am.specs.Text.{exit_of};
 
 use tez_dag_json::DagFault;
 use tez_ids::{Name, VertexId};
-
-/// A device that a call may fail at, beside its inputs and its text.
-#[derive(Clone, Copy, Debug, PartialEq, Eq)]
-pub enum Device {
-    Disk,
-    Store,
-}
+use tez_world::Device;
 
 /// How a call ended.
 #[derive(Debug, Drop)]

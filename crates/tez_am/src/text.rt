@@ -5,10 +5,11 @@ ghost use Rattle.tez_am.specs.Say.{failure_text};
 ghost use Rattle.tez_am.specs.Text.{spent_line, status_text, dag_fault_text, plan_fault_text};
 
 use crate::failure::Failure;
-use crate::status::{Device, Status};
+use crate::status::Status;
 use std::alloc::{AllocError, Global};
 use tez_dag_json::{DagFault, word_and_place};
 use tez_plan::PlanFault;
+use tez_world::Device;
 
 /// The line of a sink.
 #[tactic(auto, unfolding(crate::specs::Meaning::sink_line))]

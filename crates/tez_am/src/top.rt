@@ -10,11 +10,12 @@ use crate::accept::accept;
 use crate::failure::Failure;
 use crate::run::run;
 use crate::say::say;
-use crate::status::{Device, Status};
+use crate::status::Status;
 use crate::words::dag_file;
 use std::alloc::Global;
 use tez_events::Trace;
 use tez_ports::{Gate, InputFiles, JournalDisk, OutputStore, TextOut};
+use tez_world::Device;
 
 /// Runs a command: works the plan of its DAG file, publishes each sink once with its sorted records, and
 /// says so, or says why not. The disk and the gate are not used. Each task costs what `work` costs on its
@@ -68,7 +69,10 @@ pub fn am_run<F: InputFiles, S: OutputStore, D: JournalDisk, O: TextOut, G: Gate
     ensures sure_files { F.is_sure files.old → (n : List ℕ) → result ≢ Status.InputFault n }
     ensures sure_store { S.is_sure store.old → result ≢ Status.DeviceFault Device.Store }
     ensures sure_out { O.is_sure out.old → result ≢ Status.OutFault }
-    ensures disk { (D.disk _disk.new ≡ D.disk _disk.old) × (D.faults _disk.new ≡ D.faults _disk.old) × (D.stops _disk.new ≡ D.stops _disk.old) × (D.spare _disk.new ≡ D.spare _disk.old) }
+    ensures disk { (D.disk _disk.new ≡ D.disk _disk.old) × (D.faults _disk.new ≡ D.faults _disk.old)
+        × (D.stops _disk.new ≡ D.stops _disk.old) × (D.spare _disk.new ≡ D.spare _disk.old) }
+    // The store and the disk go by the same references as before.
+    ensures lent { (S.lent store.new ≡ S.lent store.old) × (D.lent _disk.new ≡ D.lent _disk.old) }
 {
     let Some(word) = dag_file(words) else {
         return say(alloc, out, Err(Failure::Because(Status::Usage)));

@@ -1,8 +1,7 @@
 -- The consumers of what goes out over an edge.
 --     consumed       over each edge each output is an input of one consumer, or of each
-use Rattle.std.specs.Prelude.{◌≡◌, ◌<◌, ◌==◌, ◌&&◌, ℕ, Bool, true, List, Option, Some, None, unwrap_or, IsTrue, refl}
-use Rattle.std.specs.List.{filter, list_any}
-use Rattle.std.proofs.Common.{ap, sym, subst, arith}
+use Rattle.std.specs.Prelude.{◌≡◌, ◌<◌, ◌==◌, ◌&&◌, ℕ, true, Option, Some, None, unwrap_or, refl}
+use Rattle.std.proofs.Common.{arith}
 use Rattle.std.proofs.lemmas.Bool.{eq-eqb}
 use Rattle.tez_lists.specs.Numbers.{In}
 use Rattle.tez_lists.proofs.Members.{in_filter}

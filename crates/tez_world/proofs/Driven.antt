@@ -5,11 +5,10 @@
 --     stopped_stands, stopped_after                      the store where memory is short
 --     faults_next, no_faults_next                        whether a step ended at a device
 --     next_there                                         what is next, unless all is over
-use Rattle.std.specs.Prelude.{◌≡◌, ◌≢◌, ◌≤◌, ◌+◌, ◌-◌, ◌^◌, min, ◌++◌, ℕ, true, false, List, [], ◌∷◌, Option, Some, None, is_some, refl}
+use Rattle.std.specs.Prelude.{◌≡◌, ◌≢◌, ◌≤◌, ◌++◌, ℕ, true, false, List, [], ◌∷◌, Option, Some, None, is_some, refl}
 use Rattle.std.specs.List.{AllByRecursion}
 use Rattle.std.specs.Option.{option_map}
-use Rattle.std.proofs.Common.{sym, ◌∙◌, ap, subst, arith, inl, inr, append-nil, append_assoc}
-use Rattle.tez_plan.specs.Dag.{Dag}
+use Rattle.std.proofs.Common.{sym, ◌∙◌, subst, arith, inl, inr, append-nil, append_assoc}
 use Rattle.tez_conf.specs.declared.values.ConfValues.{ConfValues}
 use Rattle.tez_events.specs.declared.CoreEvent.{CoreEvent}
 use Rattle.tez_ports.specs.Causes.{Rose}
@@ -18,12 +17,13 @@ use Rattle.tez_meaning.specs.Jobs.{Job}
 use Rattle.tez_history.specs.History.{Past}
 use Rattle.tez_history.specs.Steps.{choice}
 use Rattle.tez_progress.specs.Laws.{IsIdle}
-use Rattle.tez_world.specs.declared.event.Event.{Event}
-use Rattle.tez_world.specs.declared.event.Event.TheVariants.{Core}
-use Rattle.tez_world.specs.declared.verdict.Verdict.TheVariants.{Succeeded, SinkExists, AttemptsSpent, DeviceFault}
-use Rattle.tez_world.specs.declared.verdict.Took.{Took}
-use Rattle.tez_world.specs.declared.verdict.Took.TheVariants.{Changed, Ignored, Ended}
-use Rattle.tez_world.specs.World.{Phase, Down, Up, Over, Notes, Stands, StoreAfter, StepIs, FaultIs, IsNoFault, next_in}
+use Rattle.tez_steps.specs.declared.event.Event.{Event}
+use Rattle.tez_steps.specs.declared.event.Event.TheVariants.{Core}
+use Rattle.tez_steps.specs.declared.verdict.Verdict.TheVariants.{Succeeded, SinkExists, AttemptsSpent, DeviceFault}
+use Rattle.tez_steps.specs.declared.verdict.Took.{Took}
+use Rattle.tez_steps.specs.declared.verdict.Took.TheVariants.{Changed, Ignored, Ended}
+use Rattle.tez_steps.specs.Step.{Phase, Down, Up, Over, Notes, SinksStand, StoreAfter, StepIs, FaultIs, IsNoFault}
+use Rattle.tez_world.specs.World.{next_in}
 use Rattle.tez_world.specs.Lawful.{IsGoing}
 use Rattle.tez_world.specs.Taking.{is_ended}
 use Rattle.tez_world.specs.Driving.{AreHandled, IsDriven, IsStopped, StoreDriven, StoreStopped, FaultsAre, AreNoFaults}
@@ -67,7 +67,7 @@ goes_phase job c p next q mid e (Ended v) on going step = cc
 
 -- ---- the store
 
-pub goes_stands : (job : Job) (before : Named) (t : Took) (past : Past) (notes : Notes) (s : Store) → is_ended t ≡ false → StoreAfter job before t past notes s → Stands job before past notes s
+pub goes_stands : (job : Job) (before : Named) (t : Took) (past : Past) (notes : Notes) (s : Store) → is_ended t ≡ false → StoreAfter job before t past notes s → SinksStand job before past notes s
 goes_stands job before Changed past notes s on k = k
 goes_stands job before (Ignored why) past notes s on k = k
 goes_stands job before (Ended v) past notes s on k = cc
@@ -77,11 +77,11 @@ driven_more job before [] t past notes s k = k
 driven_more job before (u ∷ []) t past notes s k = k
 driven_more job before (u ∷ w ∷ ts) t past notes s k = driven_more job before (w ∷ ts) t past notes s k
 
-pub stood : (o : Option Store) (before : Named) (job of : Job) (past : Past) (notes : Notes) (done : List Took) → of ≡ job → Told o (λ s. Stands job before past notes s × StoreDriven job before done past notes s) → Told o (Stands of before past notes)
-stood o before job of past notes done same told s at = subst (λ (j : Job). Stands j before past notes s) (sym same) (told s at).0
+pub stood : (o : Option Store) (before : Named) (job of : Job) (past : Past) (notes : Notes) (done : List Took) → of ≡ job → Told o (λ s. SinksStand job before past notes s × StoreDriven job before done past notes s) → Told o (SinksStand of before past notes)
+stood o before job of past notes done same told s at = subst (λ (j : Job). SinksStand j before past notes s) (sym same) (told s at).0
 
 -- the store after a step that ends nothing
-pub stands_next : (o : Option Store) (before : Named) (job of : Job) (past : Past) (notes : Notes) (done now : List Took) (t : Took) → of ≡ job → now ≡ done ++ t ∷ [] → is_ended t ≡ false → Told o (StoreAfter of before t past notes) → Told o (λ s. Stands job before past notes s × StoreDriven job before now past notes s)
+pub stands_next : (o : Option Store) (before : Named) (job of : Job) (past : Past) (notes : Notes) (done now : List Took) (t : Took) → of ≡ job → now ≡ done ++ t ∷ [] → is_ended t ≡ false → Told o (StoreAfter of before t past notes) → Told o (λ s. SinksStand job before past notes s × StoreDriven job before now past notes s)
 stands_next o before job of past notes done now t same now_is on told s at =
     let k : StoreAfter job before t past notes s = subst (λ (j : Job). StoreAfter j before t past notes s) same (told s at) in
     (goes_stands job before t past notes s on k, subst (λ (xs : List Took). StoreDriven job before xs past notes s) (sym now_is) (driven_more job before done t past notes s k))
@@ -92,8 +92,8 @@ driven_next o before job of past notes done now t same now_is told s at =
     subst (λ (xs : List Took). StoreDriven job before xs past notes s) (sym now_is) (driven_more job before done t past notes s (subst (λ (j : Job). StoreAfter j before t past notes s) same (told s at)))
 
 -- where memory is short
-pub stopped_stands : (o : Option Store) (before : Named) (job of : Job) (past : Past) (notes : Notes) → of ≡ job → Told o (Stands of before past notes) → Told o (StoreStopped job before past notes)
-stopped_stands o before job of past notes same told s at = (Changed, subst (λ (j : Job). Stands j before past notes s) same (told s at))
+pub stopped_stands : (o : Option Store) (before : Named) (job of : Job) (past : Past) (notes : Notes) → of ≡ job → Told o (SinksStand of before past notes) → Told o (StoreStopped job before past notes)
+stopped_stands o before job of past notes same told s at = (Changed, subst (λ (j : Job). SinksStand j before past notes s) same (told s at))
 
 pub stopped_after : (o : Option Store) (before : Named) (job of : Job) (past : Past) (notes : Notes) (t : Took) → of ≡ job → Told o (StoreAfter of before t past notes) → Told o (StoreStopped job before past notes)
 stopped_after o before job of past notes t same told s at = (t, subst (λ (j : Job). StoreAfter j before t past notes s) same (told s at))

@@ -11,7 +11,7 @@ use Rattle.tez_plan.specs.declared.parts.VertexSpec.{VertexSpec}
 use Rattle.tez_ports.specs.Content.{Named, bytes_of}
 use Rattle.tez_history.specs.Shape.{has_sink}
 use Rattle.tez_sinks.specs.Sinks.{sink_name}
-use Rattle.tez_world.specs.World.{first_published}
+use Rattle.tez_steps.specs.Step.{first_published}
 
 abbrev pub is_out_before : Dag → Named → ℕ → Bool
 is_out_before g entries v = is_some (bytes_of (sink_name g v) entries)

@@ -3,8 +3,8 @@
 --     ended_keeps       so does the end
 --     took_world        a step of a master that is up
 --     new_world, begun_world, ended_world      a run that is down, and its first event
-use Rattle.std.specs.Prelude.{◌≡◌, true, Bool, false, [], ◌∷◌, Option, Some, None, refl}
-use Rattle.std.proofs.Common.{sym, ◌∙◌, ap, subst, inl}
+use Rattle.std.specs.Prelude.{◌≡◌, true, Bool, false, [], Option, Some, None, refl}
+use Rattle.std.proofs.Common.{sym, subst, inl}
 use Rattle.tez_ids.specs.declared.AttemptId.{AttemptId}
 use Rattle.tez_conf.specs.declared.values.ConfValues.{ConfValues}
 use Rattle.tez_events.specs.declared.CoreEvent.{CoreEvent}
@@ -12,7 +12,7 @@ use Rattle.tez_events.specs.declared.CoreEvent.TheVariants.{Fail}
 use Rattle.tez_meaning.specs.Jobs.{Job}
 use Rattle.tez_history.specs.History.{Past, extend, stage}
 use Rattle.tez_history.specs.Derived.{is_processing}
-use Rattle.tez_history.specs.Steps.{enabled, entries_of, done_entries}
+use Rattle.tez_history.specs.Steps.{enabled, entries_of}
 use Rattle.tez_log.specs.Log.{LogState}
 use Rattle.tez_master_model.specs.Enabled.{enabled_in}
 use Rattle.tez_master_view.specs.Laws.{IsMasters}
@@ -22,22 +22,24 @@ use Rattle.tez_orders.specs.declared.report.Outcome.TheVariants.{Done, Bad, NoMe
 use Rattle.tez_rules.specs.OneMaster.{IsRuled}
 use Rattle.tez_rules.proofs.Kept.{begins_ruled, opens_ruled, event_ruled, report_ruled, event_adds}
 use Rattle.tez_world_invariant.proofs.PartsKeep.{on_of}
-use Rattle.tez_world.specs.declared.event.Event.{Event}
-use Rattle.tez_world.specs.declared.event.Event.TheVariants.{Core, Report}
+use Rattle.tez_steps.specs.declared.event.Event.{Event}
+use Rattle.tez_steps.specs.declared.event.Event.TheVariants.{Core, Report}
 use Rattle.tez_world.specs.declared.opening.Began.{Began}
 use Rattle.tez_world.specs.declared.opening.Began.TheVariants.{Up as BegunUp, Ended as BegunEnded}
-use Rattle.tez_world.specs.declared.running.Running.{Running}
-use Rattle.tez_world.specs.declared.verdict.Verdict.{Verdict}
-use Rattle.tez_world.specs.declared.verdict.Verdict.TheVariants.{Succeeded, SinkExists, AttemptsSpent, DeviceFault}
-use Rattle.tez_world.specs.declared.verdict.Took.{Took}
-use Rattle.tez_world.specs.declared.verdict.Took.TheVariants.{Changed, Ignored, Ended}
-use Rattle.tez_world.specs.World.{Up, Adds, ReportAdds, EndIs, bytes_out}
+use Rattle.tez_steps.specs.declared.running.Running.{Running}
+use Rattle.tez_steps.specs.declared.verdict.Verdict.{Verdict}
+use Rattle.tez_steps.specs.declared.verdict.Verdict.TheVariants.{Succeeded, SinkExists, AttemptsSpent, DeviceFault}
+use Rattle.tez_steps.specs.declared.verdict.Took.{Took}
+use Rattle.tez_steps.specs.declared.verdict.Took.TheVariants.{Changed, Ignored, Ended}
+use Rattle.tez_steps.specs.Step.{Up, Adds, ReportAdds, EndIs, bytes_out}
 use Rattle.tez_world.specs.Begun.{HasBegun}
-use Rattle.tez_world.specs.Holds.{parts_of, with_right_notes, Holds, IsWorld}
+use Rattle.tez_steps.specs.Holds.{parts_of, with_right_notes, Holds}
+use Rattle.tez_world.specs.Holds.{IsWorld}
 use Rattle.tez_world.specs.Lawful.{BytesAreTold}
-use Rattle.tez_world.specs.Taking.{IsTook, is_ended}
-use Rattle.tez_world.proofs.Events.{on_master}
-use Rattle.tez_world.proofs.Taking.{masters_event}
+use Rattle.tez_steps.specs.Taking.{IsTook}
+use Rattle.tez_world.specs.Taking.{is_ended}
+use Rattle.tez_steps.proofs.Events.{on_master}
+use Rattle.tez_steps.proofs.Taking.{masters_event}
 use Rattle.tez_world.proofs.WellLaws.{fail_enabled}
 use Rattle.tez_world.proofs.ReportBytes.{quiet_told, report_told}
 use Rattle.tez_world.proofs.RunLaws.{up_parts}

@@ -1,11 +1,10 @@
 -- A master begins.
 --     new_within                            nobody holds a place of a new pool
 --     begun_parts                           what holds of the parts of a world whose first master has begun
---     device_fault, device_steady           why a call of a device ends so
 --     sink_there                            a vertex with a sink
-use Rattle.std.specs.Prelude.{◌≡◌, ◌⊎◌, ◌<◌, ℕ, zero, suc, ◌*◌, Bool, true, false, List, [], ◌∷◌, length, map, replicate, slice_get, is_some, Option, Some, None, Result, Ok, Err, OnOk, OnErr, IsErrOf, refl}
+use Rattle.std.specs.Prelude.{◌≡◌, ℕ, zero, suc, ◌*◌, Bool, true, false, [], map, replicate, slice_get, is_some, Option, Some}
 use Rattle.std.specs.Option.{option_map_or}
-use Rattle.std.proofs.Common.{sym, ◌∙◌, ap, subst, arith, inl, inr, get_or}
+use Rattle.std.proofs.Common.{sym, ◌∙◌, ap, subst}
 use Rattle.tez_lists.specs.Numbers.{numbers_from}
 use Rattle.tez_ids.specs.declared.AttemptId.{AttemptId}
 use Rattle.tez_plan.specs.Dag.{Dag}
@@ -14,22 +13,20 @@ use Rattle.tez_plan.specs.Faults.{IsValid}
 use Rattle.tez_plan.specs.Ranges.{IsInRanges}
 use Rattle.tez_conf.specs.declared.values.ConfValues.{ConfValues}
 use Rattle.tez_conf.specs.Ranges.{IsInRange}
-use Rattle.tez_ports.specs.Causes.{Rose, DeviceHasCause}
-use Rattle.tez_ports.specs.declared.faults.DeviceStop.{DeviceStop}
-use Rattle.tez_ports.specs.declared.faults.DeviceStop.TheVariants.{Failed, Stopped}
 use Rattle.tez_meaning.specs.Jobs.{Job}
 use Rattle.tez_meaning.specs.Value.{sums}
-use Rattle.tez_history.specs.Shape.{has_sink, vertices, places}
+use Rattle.tez_history.specs.Shape.{has_sink, places}
 use Rattle.tez_pool.specs.Table.{free, new_pool}
 use Rattle.tez_pool.specs.Index.{held_at}
 use Rattle.tez_pool.specs.Victim.{AreIn}
 use Rattle.tez_master_model.specs.Fresh.{fresh}
 use Rattle.tez_inflight.specs.Seats.{Vacant}
-use Rattle.tez_world_invariant.specs.Keeping.{Holds as HoldsNoted, sum_of}
+use Rattle.tez_world_invariant.specs.Keeping.{Holds as HoldsNoted}
 use Rattle.tez_world_invariant.specs.Begin.{first_past}
 use Rattle.tez_world_invariant.proofs.EndsBegin.{begun_holds}
-use Rattle.tez_world.specs.declared.running.Running.{Running}
-use Rattle.tez_world.specs.Holds.{parts_of, right_texts, Holds}
+use Rattle.tez_steps.specs.declared.running.Running.{Running}
+use Rattle.tez_steps.specs.Holds.{parts_of, right_texts, Holds}
+use Rattle.tez_steps.proofs.Rows.{a_row_each}
 
 -- ---- a new pool
 
@@ -43,17 +40,6 @@ new_within g nodes per_node reuse n a h = absurd (no_holder (nodes * per_node) 0
 
 -- ---- a world that begins
 
-numbered : (k n : ℕ) → length (numbers_from k n) ≡ n
-numbered k zero = refl
-numbered k (suc n) = let rest = numbered (suc k) n in omega arith
-
-mapped : {X Y : Type 0} (f : X → Y) (xs : List X) → length (map f xs) ≡ length xs
-mapped f [] = refl
-mapped f (x ∷ xs) = let rest = mapped f xs in omega arith
-
-pub a_row_each : (job : Job) → length (right_texts job) ≡ length job.plan.vertices
-a_row_each job = mapped (sum_of job) (vertices job.plan) ∙ numbered 0 (length job.plan.vertices)
-
 pub begun_parts : (job : Job) (c : ConfValues) (r : Running) → IsValid job.plan → IsInRanges job.plan → IsInRange c → r.master.state ≡ fresh job.plan c 1 (new_pool c.nodes c.per_node c.reuse) → r.seats.seats ≡ replicate (places c) Vacant → r.shelves ≡ []
     → Holds job c (parts_of r) first_past
 begun_parts job c r valid ranges range master seats shelves =
@@ -62,31 +48,7 @@ begun_parts job c r valid ranges range master seats shelves =
     (subst (λ s. HoldsNoted job c (record { master = fresh job.plan c 1 (new_pool c.nodes c.per_node c.reuse); seats = replicate (places c) Vacant; shelves = s; texts = right_texts job; sums = sums job }) first_past) (sym shelves)
     (begun_holds job c (right_texts job) (sums job) valid ranges range (a_row_each job))))
 
--- ---- devices
-
-other : {T B : Type 0} (x : T) (e : DeviceStop) → IsErrOf {T = T} {E = DeviceStop} (Ok x) e ⊎ B → B
-other x e (inl k) = cc
-other x e (inr b) = b
-
-pub device_fault : {T : Type 0} (faults stops new_faults new_stops : ℕ) (r : Result T DeviceStop) → DeviceHasCause faults stops new_faults new_stops r → OnErr r (Rose faults new_faults ⊎ Rose stops new_stops)
-device_fault faults stops new_faults new_stops (Ok x) h = tt
-device_fault faults stops new_faults new_stops (Err Failed) h = inl (h.failed refl)
-device_fault faults stops new_faults new_stops (Err Stopped) h = inr (h.stopped refl)
-
-pub device_steady : {T : Type 0} (faults stops new_faults new_stops : ℕ) (r : Result T DeviceStop) → DeviceHasCause faults stops new_faults new_stops r → OnOk r ((new_faults ≡ faults) × (new_stops ≡ stops))
-device_steady faults stops new_faults new_stops (Ok x) h = (other x Failed h.steady, other x Stopped h.steady_stops)
-device_steady faults stops new_faults new_stops (Err e) h = tt
-
 -- ---- sinks
 
 pub sink_there : (g : Dag) (i : ℕ) (s : VertexSpec) → slice_get g.vertices i ≡ Some s → is_some s.sink ≡ true → has_sink g i ≡ true
 sink_there g i s there is = ap (λ (o : Option VertexSpec). option_map_or (λ (x : VertexSpec). is_some x.sink) o false) there ∙ is
-
-pub get_there : {X : Type 0} (xs : List X) (i : ℕ) (x : X) → i < length xs → x ≡ get_or xs i x → slice_get xs i ≡ Some x
-get_there [] i x low is = let never : ⊥ = omega arith in absurd never
-get_there (y ∷ xs) zero x low is = ap Some (sym is)
-get_there (y ∷ xs) (suc i) x low is = get_there xs i x (omega arith) is
-
-pub gone : {X : Type 0} (o : Option X) → ((x : X) → o ≡ Some x → ⊥) → o ≡ None
-gone None none = refl
-gone (Some x) none = absurd (none x refl)

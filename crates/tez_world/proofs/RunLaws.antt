@@ -13,7 +13,7 @@ use Rattle.tez_lists.specs.Numbers.{In, numbers_from}
 use Rattle.tez_lists.proofs.Cases.{cases}
 use Rattle.tez_plan.specs.Dag.{Dag}
 use Rattle.tez_plan.specs.declared.parts.VertexSpec.{VertexSpec}
-use Rattle.tez_events.specs.declared.CoreEvent.TheVariants.{Open, Configure, Queue, Place, Fetch, Send, Preempt, Fail, LoseNode, LoseOutput, Restart, Ready, CommitStart, Publish, Finish, Purge}
+use Rattle.tez_events.specs.declared.CoreEvent.TheVariants.{Open, Configure, Queue, Place, Fetch, Send, Preempt, Fail, LoseNode, LoseOutput, Restart, Ready, CommitStart, Ask, Publish, Finish, Purge}
 use Rattle.tez_ids.specs.declared.AttemptId.{AttemptId}
 use Rattle.tez_conf.specs.declared.values.ConfValues.{ConfValues}
 use Rattle.tez_events.specs.declared.CoreEvent.{CoreEvent}
@@ -29,22 +29,24 @@ use Rattle.tez_world_invariant.specs.Store.{HasPublished, StoreStands, WasClear}
 use Rattle.tez_world_invariant.proofs.EndsBegin.{opened_stands, none_named}
 use Rattle.tez_world_invariant.proofs.EndsStore.{store_published}
 use Rattle.tez_world_invariant.proofs.PartsTaking.{choice_taken}
-use Rattle.tez_world.specs.declared.event.Event.{Event}
-use Rattle.tez_world.specs.declared.event.Event.TheVariants.{Core, Report}
+use Rattle.tez_steps.specs.declared.event.Event.{Event}
+use Rattle.tez_steps.specs.declared.event.Event.TheVariants.{Core, Report}
 use Rattle.tez_world.specs.declared.opening.Began.{Began}
 use Rattle.tez_world.specs.declared.opening.Began.TheVariants.{Up as BegunUp, Ended as BegunEnded}
-use Rattle.tez_world.specs.declared.verdict.Verdict.{Verdict}
-use Rattle.tez_world.specs.declared.verdict.Verdict.TheVariants.{Succeeded, SinkExists, AttemptsSpent, DeviceFault}
-use Rattle.tez_world.specs.declared.verdict.Took.TheVariants.{Changed, Ended}
-use Rattle.tez_world.specs.declared.running.Running.{Running}
-use Rattle.tez_world.specs.World.{Phase, Down, Over, Up, Notes, Stands, StoreAfter, Adds, EndIs, IsEnd, StepIs, FaultIs, first_published, next_in}
-use Rattle.tez_world.specs.Holds.{parts_of, with_right_notes, Holds, notes_of, notes_from, phase_of, HasParts, IsWorld}
+use Rattle.tez_steps.specs.declared.verdict.Verdict.{Verdict}
+use Rattle.tez_steps.specs.declared.verdict.Verdict.TheVariants.{Succeeded, SinkExists, AttemptsSpent, DeviceFault}
+use Rattle.tez_steps.specs.declared.verdict.Took.TheVariants.{Changed, Ended}
+use Rattle.tez_steps.specs.declared.running.Running.{Running}
+use Rattle.tez_steps.specs.Step.{Phase, Down, Over, Up, Notes, SinksStand, StoreAfter, Adds, EndIs, IsEnd, StepIs, FaultIs, first_published}
+use Rattle.tez_world.specs.World.{next_in}
+use Rattle.tez_steps.specs.Holds.{parts_of, with_right_notes, Holds, notes_of}
+use Rattle.tez_world.specs.Holds.{notes_from, phase_of, HasParts, IsWorld}
 use Rattle.tez_world.specs.Taking.{is_open}
 use Rattle.tez_world.specs.Begun.{HasBegun, HasRows, WasAsked, HasFault}
-use Rattle.tez_world.proofs.Commits.{low_sink}
-use Rattle.tez_world.proofs.Tellings.{told_same}
+use Rattle.tez_steps.proofs.Commits.{low_sink}
+use Rattle.tez_steps.proofs.Tellings.{told_same}
 
-pub in_order : (job : Job) (c : ConfValues) (running : Option Running) (over : Bool) (past : Past) (before : Named) (notes : Notes) (s : Store) → HasParts job c running over past → phase_of running over ≢ Over → Stands job before past notes s → HasPublished job before s
+pub in_order : (job : Job) (c : ConfValues) (running : Option Running) (over : Bool) (past : Past) (before : Named) (notes : Notes) (s : Store) → HasParts job c running over past → phase_of running over ≢ Over → SinksStand job before past notes s → HasPublished job before s
 in_order job c running true past before notes s h going stands = absurd (going refl)
 in_order job c None false past before notes s h going stands = (0, stands.store.right.publications ∙ ap (λ (p : Past). before ++ published_view job p) h)
 in_order job c (Some r) false past before notes s h going stands = store_published job c (with_right_notes job (parts_of r)) past before s h stands.store
@@ -80,6 +82,7 @@ open_is (Core (LoseOutput t)) h = cc
 open_is (Core Restart) h = cc
 open_is (Core (Ready v)) h = cc
 open_is (Core CommitStart) h = cc
+open_is (Core (Ask v)) h = cc
 open_is (Core (Publish v)) h = cc
 open_is (Core Finish) h = cc
 open_is (Core Purge) h = cc
@@ -140,17 +143,17 @@ none_found_clear job before h = none_named job before (λ v name there.
 
 -- the store, as the first master begins
 pub up_stands : (job : Job) (c : ConfValues) (before : Named) (past after : Past) (notes : Notes) (r : Running) (began : Began) (o n : Option Store) → past ≡ [] → began ≡ BegunUp r → HasRows job began → HasBegun job c began after → n ≡ o → Told o (λ s. WasAsked job s.publications began)
-    → Told o (Stands job before past notes) → Told n (Stands job before after (notes_of r))
+    → Told o (SinksStand job before past notes) → Told n (SinksStand job before after (notes_of r))
 up_stands job c before past after notes r began o n empty is rows h same asked told =
     let begun : HasBegun job c (BegunUp r) after = subst (λ (b : Began). HasBegun job c b after) is h in
     let each : HasRows job (BegunUp r) = subst (HasRows job) is rows in
-    told_same (λ s. Stands job before past notes s × WasAsked job s.publications began) (Stands job before after (notes_of r)) o n same
+    told_same (λ s. SinksStand job before past notes s × WasAsked job s.publications began) (SinksStand job before after (notes_of r)) o n same
     (λ s k.
     let here : StoreStands job before [] s = subst (λ (p : Past). StoreStands job before p s) empty k.0.store in
     let pubs : s.publications ≡ before = here.right.publications ∙ append-nil before in
     let none : first_published job.plan s.publications ≡ None = subst (WasAsked job s.publications) is k.1 in
     let clear = none_found_clear job before (ap (first_published job.plan) (sym pubs) ∙ none) in
-    subst (λ (p : Past). Stands job before p (notes_of r) s) (sym begun.0)
+    subst (λ (p : Past). SinksStand job before p (notes_of r) s) (sym begun.0)
     (record {
       store = opened_stands job [] (record { 0 = 1 }) before s clear here;
       noted = record { rows = λ up. each; texts = λ v sink ready. cc; sums = λ on. cc };
@@ -170,9 +173,9 @@ pub ended_steps : (job : Job) (c : ConfValues) (phase : Phase) (past : Past) (e 
 ended_steps job c phase past e v after began down empty is h = let end = ended_step job c phase past e v after began down empty is h in (refl, end.0, end.1)
 
 pub ended_stands : (job : Job) (c : ConfValues) (before : Named) (past after : Past) (notes next : Notes) (v : Verdict) (began : Began) (o n : Option Store) → past ≡ [] → began ≡ BegunEnded v → HasBegun job c began after → n ≡ o → Told o (λ s. WasAsked job s.publications began)
-    → Told o (Stands job before past notes) → Told n (StoreAfter job before (Ended v) after next)
+    → Told o (SinksStand job before past notes) → Told n (StoreAfter job before (Ended v) after next)
 ended_stands job c before past after notes next v began o n empty is h same asked told =
-    told_same (λ s. Stands job before past notes s × WasAsked job s.publications began) (StoreAfter job before (Ended v) after next) o n same
+    told_same (λ s. SinksStand job before past notes s × WasAsked job s.publications began) (StoreAfter job before (Ended v) after next) o n same
     (λ s k.
     let here : StoreStands job before [] s = subst (λ (p : Past). StoreStands job before p s) empty k.0.store in
     by s (here.right.publications ∙ append-nil before) v (subst (λ (b : Began). HasBegun job c b after) is h) (subst (WasAsked job s.publications) is k.1))
@@ -197,5 +200,5 @@ ended_fault job c after v began faults stops new_faults new_stops is h f = by v 
 pub world_inside : (job : Job) (c : ConfValues) (running : Option Running) (over : Bool) (past : Past) (r : Running) → over ≡ false → running ≡ Some r → IsWorld job c running over past → IsWorld job c (Some r) false past
 world_inside job c running over past r off some h = subst (λ (b : Bool). IsWorld job c (Some r) b past) off (subst (λ (o : Option Running). IsWorld job c o over past) some h)
 
-pub told_inside : (o : Option Store) (before : Named) (job : Job) (past : Past) (running : Option Running) (r : Running) → running ≡ Some r → Told o (Stands job before past (notes_from running)) → Told o (Stands job before past (notes_of r))
-told_inside o before job past running r some told = subst (λ (x : Option Running). Told o (Stands job before past (notes_from x))) some told
+pub told_inside : (o : Option Store) (before : Named) (job : Job) (past : Past) (running : Option Running) (r : Running) → running ≡ Some r → Told o (SinksStand job before past (notes_from running)) → Told o (SinksStand job before past (notes_of r))
+told_inside o before job past running r some told = subst (λ (x : Option Running). Told o (SinksStand job before past (notes_from x))) some told

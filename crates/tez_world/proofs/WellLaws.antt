@@ -28,18 +28,19 @@ use Rattle.tez_rules.proofs.Unbroken.{one_unbroken}
 use Rattle.tez_sinks.specs.Well.{IsWell}
 use Rattle.tez_sinks.proofs.Wells.{well_event, well_report}
 use Rattle.tez_world_invariant.proofs.PartsKeep.{on_of}
-use Rattle.tez_world.specs.declared.event.Event.{Event}
-use Rattle.tez_world.specs.declared.event.Event.TheVariants.{Core, Report}
-use Rattle.tez_world.specs.declared.running.Running.{Running}
-use Rattle.tez_world.specs.declared.verdict.Verdict.{Verdict}
-use Rattle.tez_world.specs.declared.verdict.Verdict.TheVariants.{Succeeded, SinkExists, AttemptsSpent, DeviceFault}
-use Rattle.tez_world.specs.World.{Up, Adds, ReportAdds, EndIs, bytes_out}
-use Rattle.tez_world.specs.Holds.{parts_of, with_right_notes, Holds, phase_of, HasParts, IsWorld}
+use Rattle.tez_steps.specs.declared.event.Event.{Event}
+use Rattle.tez_steps.specs.declared.event.Event.TheVariants.{Core, Report}
+use Rattle.tez_steps.specs.declared.running.Running.{Running}
+use Rattle.tez_steps.specs.declared.verdict.Verdict.{Verdict}
+use Rattle.tez_steps.specs.declared.verdict.Verdict.TheVariants.{Succeeded, SinkExists, AttemptsSpent, DeviceFault}
+use Rattle.tez_steps.specs.Step.{Up, Adds, ReportAdds, EndIs, bytes_out}
+use Rattle.tez_steps.specs.Holds.{parts_of, with_right_notes, Holds}
+use Rattle.tez_world.specs.Holds.{phase_of, HasParts, IsWorld}
 use Rattle.tez_world.specs.Lawful.{BytesAreTold, IsLawful, IsTrace, IsGoing}
 use Rattle.tez_world.proofs.Consumers.{consumed}
-use Rattle.tez_world.proofs.Events.{on_master}
-use Rattle.tez_world.proofs.Taking.{masters_event}
-use Rattle.tez_world.proofs.Reported.{both_on, goes_unfinished, unfinished}
+use Rattle.tez_steps.proofs.Events.{on_master}
+use Rattle.tez_steps.proofs.Taking.{masters_event}
+use Rattle.tez_steps.proofs.Reported.{both_on, goes_unfinished, unfinished}
 
 -- a failure of an attempt at work may come
 pub fail_enabled : (job : Job) (c : ConfValues) (r : Running) (past : Past) (a : AttemptId) → Holds job c (parts_of r) past → is_processing (stage a past) ≡ true → enabled job.plan c past (Fail a) ≡ true

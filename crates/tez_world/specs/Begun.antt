@@ -12,11 +12,11 @@ use Rattle.tez_history.specs.Shape.{has_sink}
 use Rattle.tez_history.specs.History.{Past}
 use Rattle.tez_world.specs.declared.opening.Began.{Began}
 use Rattle.tez_world.specs.declared.opening.Began.TheVariants.{Up, Ended}
-use Rattle.tez_world.specs.declared.verdict.Device.TheVariants as device
-use Rattle.tez_world.specs.declared.verdict.Verdict.{Verdict}
-use Rattle.tez_world.specs.declared.verdict.Verdict.TheVariants.{Succeeded, SinkExists, AttemptsSpent, DeviceFault}
-use Rattle.tez_world.specs.World.{first_published}
-use Rattle.tez_world.specs.Holds.{parts_of, Holds}
+use Rattle.tez_steps.specs.declared.verdict.Device.TheVariants as device
+use Rattle.tez_steps.specs.declared.verdict.Verdict.{Verdict}
+use Rattle.tez_steps.specs.declared.verdict.Verdict.TheVariants.{Succeeded, SinkExists, AttemptsSpent, DeviceFault}
+use Rattle.tez_steps.specs.Step.{first_published}
+use Rattle.tez_steps.specs.Holds.{parts_of, Holds}
 
 abbrev pub EndsAtOnce : Job → Verdict → Type 0
 EndsAtOnce job (Succeeded pairs) = ⊥

@@ -11,9 +11,9 @@ use Rattle.tez_conf.specs.declared.values.ConfValues.{ConfValues}
 use Rattle.tez_ports.specs.Content.{Named, Store}
 use Rattle.tez_meaning.specs.Jobs.{Job}
 use Rattle.tez_history.specs.History.{Past}
-use Rattle.tez_world.specs.declared.event.Event.{Event}
-use Rattle.tez_world.specs.declared.verdict.Took.{Took}
-use Rattle.tez_world.specs.World.{Phase, Over, Notes, StepIs, Stands, StoreAfter, FaultIs, IsNoFault}
+use Rattle.tez_steps.specs.declared.event.Event.{Event}
+use Rattle.tez_steps.specs.declared.verdict.Took.{Took}
+use Rattle.tez_steps.specs.Step.{Phase, Over, Notes, StepIs, SinksStand, StoreAfter, FaultIs, IsNoFault}
 
 abbrev pub AreHandled : Job → ConfValues → Phase → Past → List Event → List Took → List Event → Phase → Past → Type 0
 AreHandled job c phase past events [] rest last after = (rest ≡ events) × (last ≡ phase) × (after ≡ past)
@@ -34,7 +34,7 @@ pub record IsStopped (job : Job) (c : ConfValues) (phase : Phase) (past : Past) 
 -- ---- the store
 
 abbrev pub StoreDriven : Job → Named → List Took → Past → Notes → Store → Type 0
-StoreDriven job before [] past notes s = Stands job before past notes s
+StoreDriven job before [] past notes s = SinksStand job before past notes s
 StoreDriven job before (took ∷ []) past notes s = StoreAfter job before took past notes s
 StoreDriven job before (took ∷ next ∷ tooks) past notes s = StoreDriven job before (next ∷ tooks) past notes s
 

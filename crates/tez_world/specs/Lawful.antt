@@ -5,7 +5,7 @@
 --     IsLawful job c past      each entry might follow those before it, attempts and their inputs are right, and no rule is broken
 --     IsTrace job c past       there is none yet, or it is lawful
 --     IsGoing g c past         a master that is up has a next event of its own unless an attempt is processing, and each task that was queued has a live attempt or a winner
-use Rattle.std.specs.Prelude.{◌≡◌, ◌⊎◌, ⊤, true, List, [], ◌∷◌, length, reverse, is_some, None}
+use Rattle.std.specs.Prelude.{◌≡◌, ◌⊎◌, ⊤, true, [], ◌∷◌, length, reverse, is_some, None}
 use Rattle.tez_lists.specs.Numbers.{In}
 use Rattle.tez_record.specs.Bag.{text}
 use Rattle.tez_plan.specs.declared.parts.EdgeSpec.{EdgeSpec}

@@ -1,9 +1,6 @@
 pub mod World
 pub mod Holds
-pub mod Steps
 pub mod Taking
 pub mod Begun
-pub mod Committing
-pub mod Reporting
 pub mod Driving
 pub mod Lawful

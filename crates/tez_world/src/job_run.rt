@@ -3,15 +3,12 @@ ghost use Rattle.std.specs.Prelude.{◌≡◌, ◌≢◌, ◌≤◌, ◌↔◌, 
 ghost use Rattle.std.specs.Option.{option_map};
 ghost use Rattle.tez_ports.specs.Content.{Named, Store, Told};
 ghost use Rattle.tez_world_invariant.specs.Store.{HasPublished};
-ghost use Rattle.tez_world.specs.World.{Down, Up, Over, StepIs, Stands, StoreAfter, IsIgnored, FaultIs, IsNoFault, next_in, tail_of};
+ghost use Rattle.tez_steps.specs.Step.{Down, Up, Over, StepIs, SinksStand, StoreAfter, IsIgnored, FaultIs, IsNoFault};
+ghost use Rattle.tez_world.specs.World.{new_run, next_in, tail_of};
 ghost use Rattle.tez_world.specs.Lawful.{IsTrace, IsGoing};
 ghost use Rattle.tez_world.specs.Taking.{is_ended, is_open};
 
-use crate::event::Event;
 use crate::opening::{Began, begin};
-use crate::running::Running;
-use crate::stepping::take;
-use crate::verdict::Took;
 use std::alloc::{AllocError, Global};
 use std::marker::Model;
 use tez_conf::Conf;
@@ -21,6 +18,7 @@ use tez_master_model::Why;
 use tez_meaning::Job;
 use tez_orders::Order;
 use tez_ports::OutputStore;
+use tez_steps::{Event, Running, Took, take};
 
 /// Whether a world begins a job, or may go on with one.
 #[derive(Clone, Copy, Debug, PartialEq, Eq)]
@@ -47,7 +45,15 @@ impl Model for JobRun {
 
     ghost Value = { RunParts };
 
-    ghost view = { λ r. record { job = r.job; conf = r.conf; phase = phase_of r.running r.over; past = r.log.past; queue = queue_of r.running; notes = notes_from r.running; records = r.log.records } };
+    ghost view = { λ r. record {
+      job = r.job;
+      conf = r.conf;
+      phase = phase_of r.running r.over;
+      past = r.log.past;
+      queue = queue_of r.running;
+      notes = notes_from r.running;
+      records = r.log.records;
+    } };
 
     ghost invariant = { λ r. IsWorld r.job r.conf r.running r.over r.log.past };
 }
@@ -55,7 +61,7 @@ impl Model for JobRun {
 impl JobRun {
     /// The run of a job before its first master, with an empty trace. Takes no memory.
     pub fn open(alloc: Global, job: Job, conf: Conf, mode: Mode) -> JobRun
-        ensures { result ≡ record { job = job; conf = conf; phase = Down; past = []; queue = []; notes = record { texts = []; sums = [] }; records = [] } }
+        ensures { result ≡ new_run job conf }
     {
         JobRun {
             job,
@@ -78,20 +84,28 @@ impl JobRun {
         ensures job { self.new.job ≡ self.old.job }
         ensures conf { self.new.conf ≡ self.old.conf }
         // What was answered, and the history after it.
-        ensures step { IfOk result (λ took. StepIs self.old.job self.old.conf self.old.phase self.old.past e took self.new.phase self.new.past) }
+        ensures step { IfOk result (λ took. StepIs self.old.job self.old.conf
+            self.old.phase self.old.past e took self.new.phase self.new.past) }
         ensures ignored { IfOk result (λ took. IsIgnored took → (self.new ≡ self.old) × (store.new ≡ store.old)) }
         ensures refused { OnErr result (self.new ≡ self.old) }
         // The store stays right, whatever had been published before, and tells as it told.
-        ensures store { (before : Named) → self.old.phase ≢ Over → Told (S.store store.old) (Stands self.old.job before self.old.past self.old.notes)
-            → IfOk result (λ took. Told (S.store store.new) (StoreAfter self.old.job before took self.new.past self.new.notes)) }
-        ensures store_refused { (before : Named) → self.old.phase ≢ Over → Told (S.store store.old) (Stands self.old.job before self.old.past self.old.notes)
-            → OnErr result (Told (S.store store.new) (Stands self.old.job before self.new.past self.new.notes)) }
+        ensures store { (before : Named) → self.old.phase ≢ Over
+            → Told (S.store store.old) (SinksStand self.old.job before self.old.past self.old.notes)
+            → IfOk result (λ took. Told (S.store store.new)
+            (StoreAfter self.old.job before took self.new.past self.new.notes)) }
+        ensures store_refused { (before : Named) → self.old.phase ≢ Over
+            → Told (S.store store.old) (SinksStand self.old.job before self.old.past self.old.notes)
+            → OnErr result (Told (S.store store.new) (SinksStand self.old.job before self.new.past self.new.notes)) }
         ensures told { is_some (S.store store.new) ≡ is_some (S.store store.old) }
         // The end at a device comes where that device failed or was stopped, and never at a sure one.
         ensures later { (S.faults store.old ≤ S.faults store.new) × (S.stops store.old ≤ S.stops store.new) }
-        ensures fault { IfOk result (FaultIs (S.faults store.old) (S.stops store.old) (S.faults store.new) (S.stops store.new)) }
+        ensures fault { IfOk result
+            (FaultIs (S.faults store.old) (S.stops store.old) (S.faults store.new) (S.stops store.new)) }
+        ensures lent { S.lent store.new ≡ S.lent store.old }
         ensures stays_sure { S.is_sure store.old → S.is_sure store.new }
-        ensures sure { (before : Named) → S.is_sure store.old → Told (S.store store.old) (Stands self.old.job before self.old.past self.old.notes) → IfOk result IsNoFault }
+        ensures sure { (before : Named) → S.is_sure store.old
+            → Told (S.store store.old) (SinksStand self.old.job before self.old.past self.old.notes)
+            → IfOk result IsNoFault }
     {
         if self.over {
             return Ok(Took::Ignored(Why::Over));
@@ -122,18 +136,26 @@ impl JobRun {
         requires down { self.old.phase ≡ Down }
         ensures job { self.new.job ≡ self.old.job }
         ensures conf { self.new.conf ≡ self.old.conf }
-        ensures step { IfOk result (λ took. StepIs self.old.job self.old.conf self.old.phase self.old.past e took self.new.phase self.new.past) }
+        ensures step { IfOk result (λ took. StepIs self.old.job self.old.conf
+            self.old.phase self.old.past e took self.new.phase self.new.past) }
         ensures ignored { IfOk result (λ took. IsIgnored took → (self.new ≡ self.old) × (store.new ≡ store.old)) }
         ensures refused { OnErr result (self.new ≡ self.old) }
-        ensures store { (before : Named) → Told (S.store store.old) (Stands self.old.job before self.old.past self.old.notes)
-            → IfOk result (λ took. Told (S.store store.new) (StoreAfter self.old.job before took self.new.past self.new.notes)) }
-        ensures store_refused { (before : Named) → Told (S.store store.old) (Stands self.old.job before self.old.past self.old.notes)
-            → OnErr result (Told (S.store store.new) (Stands self.old.job before self.new.past self.new.notes)) }
+        ensures store { (before : Named)
+            → Told (S.store store.old) (SinksStand self.old.job before self.old.past self.old.notes)
+            → IfOk result (λ took. Told (S.store store.new)
+            (StoreAfter self.old.job before took self.new.past self.new.notes)) }
+        ensures store_refused { (before : Named)
+            → Told (S.store store.old) (SinksStand self.old.job before self.old.past self.old.notes)
+            → OnErr result (Told (S.store store.new) (SinksStand self.old.job before self.new.past self.new.notes)) }
         ensures told { is_some (S.store store.new) ≡ is_some (S.store store.old) }
         ensures later { (S.faults store.old ≤ S.faults store.new) × (S.stops store.old ≤ S.stops store.new) }
-        ensures fault { IfOk result (FaultIs (S.faults store.old) (S.stops store.old) (S.faults store.new) (S.stops store.new)) }
+        ensures fault { IfOk result
+            (FaultIs (S.faults store.old) (S.stops store.old) (S.faults store.new) (S.stops store.new)) }
+        ensures lent { S.lent store.new ≡ S.lent store.old }
         ensures stays_sure { S.is_sure store.old → S.is_sure store.new }
-        ensures sure { (before : Named) → S.is_sure store.old → Told (S.store store.old) (Stands self.old.job before self.old.past self.old.notes) → IfOk result IsNoFault }
+        ensures sure { (before : Named) → S.is_sure store.old
+            → Told (S.store store.old) (SinksStand self.old.job before self.old.past self.old.notes)
+            → IfOk result IsNoFault }
     {
         if !is_open(&e) {
             return Ok(Took::Ignored(Why::Down));
@@ -178,7 +200,8 @@ impl JobRun {
 
     /// Until the end comes, what was published is a first part of the sinks, each with its text.
     pub fn publishes_in_order(&self)
-        ensures { (before : Named) (s : Store) → self.now.phase ≢ Over → Stands self.now.job before self.now.past self.now.notes s → HasPublished self.now.job before s }
+        ensures { (before : Named) (s : Store) → self.now.phase ≢ Over
+            → SinksStand self.now.job before self.now.past self.now.notes s → HasPublished self.now.job before s }
     {
         let _mode = self.mode;
     }

@@ -7,13 +7,11 @@ ghost use Rattle.tez_events.specs.declared.Entry.TheVariants.{Opened};
 ghost use Rattle.tez_history.specs.Shape.{has_sink};
 ghost use Rattle.tez_pool.specs.Victim.{AreIn};
 ghost use Rattle.tez_master_model.specs.Fresh.{fresh};
-ghost use Rattle.tez_world.specs.World.{first_published};
+ghost use Rattle.tez_steps.specs.Step.{first_published};
 ghost use Rattle.tez_world.specs.Begun.{HasRows, HasBegun, WasAsked, HasFault, IsNotFault};
-ghost use Rattle.tez_world.specs.Holds.{parts_of, Holds};
-ghost use Rattle.tez_world.specs.Steps.{SameLog};
+ghost use Rattle.tez_steps.specs.Holds.{parts_of, Holds};
+ghost use Rattle.tez_steps.specs.Parts.{SameLog};
 
-use crate::running::Running;
-use crate::verdict::{Device, Verdict};
 use std::alloc::{AllocError, Global};
 use tez_conf::Conf;
 use tez_dag_json::dag_text;
@@ -28,6 +26,7 @@ use tez_pool::Pool;
 use tez_ports::{DeviceStop, OutputStore};
 use tez_shelves::Shelves;
 use tez_standing::{Failures, Phase, Settings, Standing, Winners};
+use tez_steps::{Device, Running, Verdict};
 
 /// How a master began: it is up, or the world ended at once.
 #[derive(Drop)]
@@ -52,13 +51,15 @@ pub(crate) fn begin<S: OutputStore>(
     ensures same { S.store store.new ≡ S.store store.old }
     ensures store { IfOk result (λ began. Told (S.store store.old) (λ s. WasAsked job.now s.publications began)) }
     ensures later { (S.faults store.old ≤ S.faults store.new) × (S.stops store.old ≤ S.stops store.new) }
-    ensures fault { IfOk result (λ began. HasFault (S.faults store.old) (S.stops store.old) (S.faults store.new) (S.stops store.new) began) }
+    ensures fault { IfOk result
+        (λ began. HasFault (S.faults store.old) (S.stops store.old) (S.faults store.new) (S.stops store.new) began) }
+    ensures lent { S.lent store.new ≡ S.lent store.old }
     ensures stays_sure { S.is_sure store.old → S.is_sure store.new }
     ensures sure { S.is_sure store.old → IfOk result IsNotFault }
 {
     let running = new_running(alloc, job, conf)?;
     let text = dag_text(alloc, job.plan(), conf)?;
-    log.reserve(1, 2)?;
+    log.reserve(1, 3)?;
     match first_published(job, store) {
         Ok(None) => {
             write_opening(log, text);
@@ -69,15 +70,17 @@ pub(crate) fn begin<S: OutputStore>(
     }
 }
 
-/// Writes down that the job is submitted, and that its first master is open. Takes no memory.
+/// Writes down that the job is submitted to a journal of version 2, and that its first master is open.
+/// Takes no memory.
 fn write_opening(log: &mut Log, text: Vec<u8>)
     requires entries { 1 ≤ log.old.entry_room }
-    requires records { 2 ≤ log.old.record_room }
+    requires records { 3 ≤ log.old.record_room }
     ensures { log.new.past ≡ Opened (record { 0 = 1 }) ∷ log.old.past }
 {
     log.note(JournalRecord::Submitted {
         text: Bytes::new(text),
     });
+    log.note(JournalRecord::Version);
     log.note(JournalRecord::Opened { epoch: Epoch(1) });
     log.write(Entry::Opened(Epoch(1)));
 }
@@ -109,6 +112,7 @@ fn first_master(alloc: Global, plan: Plan, conf: Conf, pool: Pool) -> Result<Mas
 {
     let nothing = Standing {
         epoch: 0,
+        version: 1,
         configured: Settings::new(Vec::new(alloc)),
         winners: Winners::new(Vec::new(alloc)),
         failures: Failures::new(Vec::new(alloc)),
@@ -122,11 +126,15 @@ fn first_master(alloc: Global, plan: Plan, conf: Conf, pool: Pool) -> Result<Mas
 
 /// The first vertex whose sink was published before.
 fn first_published<S: OutputStore>(job: &Job, store: &mut S) -> Result<Option<VertexId>, DeviceStop>
-    ensures found { IfOk result (λ found. Told (S.store store.old) (λ s. option_map (λ v. v.0) found ≡ first_published job.now.plan s.publications)) }
+    ensures found { IfOk result
+        (λ found. Told (S.store store.old) (λ s. option_map (λ v. v.0) found
+        ≡ first_published job.now.plan s.publications)) }
     ensures sink { IfOk result (λ found. IfSome found (λ v. has_sink job.now.plan v.0 ≡ true)) }
     ensures same { S.store store.new ≡ S.store store.old }
     ensures later { (S.faults store.old ≤ S.faults store.new) × (S.stops store.old ≤ S.stops store.new) }
-    ensures fault { OnErr result (Rose (S.faults store.old) (S.faults store.new) ⊎ Rose (S.stops store.old) (S.stops store.new)) }
+    ensures fault { OnErr result (Rose (S.faults store.old) (S.faults store.new)
+        ⊎ Rose (S.stops store.old) (S.stops store.new)) }
+    ensures lent { S.lent store.new ≡ S.lent store.old }
     ensures stays_sure { S.is_sure store.old → S.is_sure store.new }
     ensures sure { S.is_sure store.old → IsOk result }
 {
@@ -141,12 +149,16 @@ fn first_published<S: OutputStore>(job: &Job, store: &mut S) -> Result<Option<Ve
 
 /// Whether a vertex has a sink that was published before.
 fn is_found<S: OutputStore>(store: &mut S, vertex: &VertexSpec) -> Result<bool, DeviceStop>
-    ensures found { IfOk result (λ found. Told (S.store store.old) (λ s. found ≡ option_map_or (λ name. is_some (bytes_of name s.publications)) vertex.now.sink false)) }
+    ensures found { IfOk result
+        (λ found. Told (S.store store.old) (λ s. found
+        ≡ option_map_or (λ name. is_some (bytes_of name s.publications)) vertex.now.sink false)) }
     ensures sink { IfOk result (λ found. found ≡ true → is_some vertex.now.sink ≡ true) }
     ensures same { S.store store.new ≡ S.store store.old }
     ensures later { (S.faults store.old ≤ S.faults store.new) × (S.stops store.old ≤ S.stops store.new) }
-    ensures fault { OnErr result (Rose (S.faults store.old) (S.faults store.new) ⊎ Rose (S.stops store.old) (S.stops store.new)) }
+    ensures fault { OnErr result (Rose (S.faults store.old) (S.faults store.new)
+        ⊎ Rose (S.stops store.old) (S.stops store.new)) }
     ensures steady { OnOk result ((S.faults store.new ≡ S.faults store.old) × (S.stops store.new ≡ S.stops store.old)) }
+    ensures lent { S.lent store.new ≡ S.lent store.old }
     ensures stays_sure { S.is_sure store.old → S.is_sure store.new }
     ensures sure { S.is_sure store.old → IsOk result }
 {

@@ -1,14 +1,13 @@
 //! The world of a job.
 ghost use Rattle.std.specs.Prelude.{◌≡◌, ◌≢◌, ◌≤◌, ◌↔◌, reverse, [], None, true, is_some, IfOk, IfErr, OnErr, IsTrue};
 ghost use Rattle.tez_ports.specs.Content.{Named, Told};
-ghost use Rattle.tez_world.specs.World.{Down, Up, Over, StepIs, Stands, StoreAfter, IsIgnored, FaultIs, IsNoFault, next_in, tail_of};
+ghost use Rattle.tez_steps.specs.Step.{Up, Over, StepIs, SinksStand, StoreAfter, IsIgnored, FaultIs, IsNoFault};
+ghost use Rattle.tez_world.specs.World.{new_run, next_in, tail_of};
 ghost use Rattle.tez_progress.specs.Laws.{IsIdle};
 ghost use Rattle.tez_world.specs.Driving.{IsDriven, IsStopped, StoreDriven, StoreStopped, FaultsAre, AreNoFaults};
 ghost use Rattle.tez_world.specs.Lawful.{IsTrace, IsGoing};
 
-use crate::event::Event;
 use crate::job_run::{JobRun, Mode, is_ended};
-use crate::verdict::Took;
 use std::alloc::{AllocError, Global};
 use std::marker::Model;
 use tez_conf::Conf;
@@ -16,6 +15,7 @@ use tez_events::Trace;
 use tez_meaning::Job;
 use tez_orders::Order;
 use tez_ports::{JournalDisk, OutputStore};
+use tez_steps::{Event, Took};
 
 /// A run of a job with its devices. One event is handled to its end by `step`. The disk is not called.
 #[derive(Drop)]
@@ -43,7 +43,7 @@ impl<D: JournalDisk, S: OutputStore> World<D, S> {
         disk: D,
         store: S,
     ) -> Result<World<D, S>, (D, S)>
-        ensures world { IfOk result (λ w. w ≡ record { run = record { job = job; conf = conf; phase = Down; past = []; queue = []; notes = record { texts = []; sums = [] }; records = [] }; disk = disk; store = store }) }
+        ensures world { IfOk result (λ w. w ≡ record { run = new_run job conf; disk = disk; store = store }) }
         ensures handed_back { IfErr result (λ back. back ≡ (disk, store)) }
     {
         Ok(World {
@@ -60,19 +60,32 @@ impl<D: JournalDisk, S: OutputStore> World<D, S> {
         ensures conf { self.new.run.conf ≡ self.old.run.conf }
         ensures disk { self.new.disk ≡ self.old.disk }
         // What was answered, and the history after it.
-        ensures step { IfOk result (λ took. StepIs self.old.run.job self.old.run.conf self.old.run.phase self.old.run.past e took self.new.run.phase self.new.run.past) }
-        ensures ignored { IfOk result (λ took. IsIgnored took → (self.new.run ≡ self.old.run) × (self.new.store ≡ self.old.store)) }
+        ensures step { IfOk result (λ took. StepIs self.old.run.job self.old.run.conf
+            self.old.run.phase self.old.run.past e took self.new.run.phase self.new.run.past) }
+        ensures ignored { IfOk result (λ took. IsIgnored took → (self.new.run ≡ self.old.run)
+            × (self.new.store ≡ self.old.store)) }
         ensures refused { OnErr result (self.new.run ≡ self.old.run) }
         // The store stays right, whatever had been published before.
-        ensures store { (before : Named) → self.old.run.phase ≢ Over → Told (S.store self.old.store) (Stands self.old.run.job before self.old.run.past self.old.run.notes)
-            → IfOk result (λ took. Told (S.store self.new.store) (StoreAfter self.old.run.job before took self.new.run.past self.new.run.notes)) }
-        ensures store_refused { (before : Named) → self.old.run.phase ≢ Over → Told (S.store self.old.store) (Stands self.old.run.job before self.old.run.past self.old.run.notes)
-            → OnErr result (Told (S.store self.new.store) (Stands self.old.run.job before self.new.run.past self.new.run.notes)) }
+        ensures store { (before : Named) → self.old.run.phase ≢ Over
+            → Told (S.store self.old.store) (SinksStand self.old.run.job before self.old.run.past self.old.run.notes)
+            → IfOk result (λ took. Told (S.store self.new.store)
+            (StoreAfter self.old.run.job before took self.new.run.past self.new.run.notes)) }
+        ensures store_refused { (before : Named) → self.old.run.phase ≢ Over
+            → Told (S.store self.old.store) (SinksStand self.old.run.job before self.old.run.past self.old.run.notes)
+            → OnErr result (Told (S.store self.new.store)
+            (SinksStand self.old.run.job before self.new.run.past self.new.run.notes)) }
         // The end at a device comes where that device failed or was stopped, and never at a sure one.
-        ensures later { (S.faults self.old.store ≤ S.faults self.new.store) × (S.stops self.old.store ≤ S.stops self.new.store) }
-        ensures fault { IfOk result (FaultIs (S.faults self.old.store) (S.stops self.old.store) (S.faults self.new.store) (S.stops self.new.store)) }
+        ensures later { (S.faults self.old.store ≤ S.faults self.new.store)
+            × (S.stops self.old.store ≤ S.stops self.new.store) }
+        ensures fault { IfOk result
+            (FaultIs (S.faults self.old.store) (S.stops self.old.store) (S.faults self.new.store)
+            (S.stops self.new.store)) }
+        ensures lent { S.lent self.new.store ≡ S.lent self.old.store }
+        ensures lent_disk { D.lent self.new.disk ≡ D.lent self.old.disk }
         ensures stays_sure { S.is_sure self.old.store → S.is_sure self.new.store }
-        ensures sure { (before : Named) → S.is_sure self.old.store → Told (S.store self.old.store) (Stands self.old.run.job before self.old.run.past self.old.run.notes) → IfOk result IsNoFault }
+        ensures sure { (before : Named) → S.is_sure self.old.store
+            → Told (S.store self.old.store) (SinksStand self.old.run.job before self.old.run.past self.old.run.notes)
+            → IfOk result IsNoFault }
         // Whatever came, the trace is lawful, and while a master is up it goes on.
         ensures trace { IsTrace self.new.run.job self.new.run.conf self.new.run.past }
         ensures goes_on { self.new.run.phase ≡ Up → IsGoing self.new.run.job.plan self.new.run.conf self.new.run.past }
@@ -100,19 +113,31 @@ impl<D: JournalDisk, S: OutputStore> World<D, S> {
         ensures job { self.new.run.job ≡ self.old.run.job }
         ensures conf { self.new.run.conf ≡ self.old.run.conf }
         ensures disk { self.new.disk ≡ self.old.disk }
-        ensures steps { IfOk result (λ tooks. IsDriven self.old.run.job self.old.run.conf self.old.run.phase self.old.run.past events.items tooks.items self.new.run.phase self.new.run.past) }
-        ensures refused { OnErr result (IsStopped self.old.run.job self.old.run.conf self.old.run.phase self.old.run.past events.items self.new.run.phase self.new.run.past) }
-        ensures store { (before : Named) → self.old.run.phase ≢ Over → Told (S.store self.old.store) (Stands self.old.run.job before self.old.run.past self.old.run.notes)
-            → IfOk result (λ tooks. Told (S.store self.new.store) (StoreDriven self.old.run.job before tooks.items self.new.run.past self.new.run.notes)) }
-        ensures store_refused { (before : Named) → self.old.run.phase ≢ Over → Told (S.store self.old.store) (Stands self.old.run.job before self.old.run.past self.old.run.notes)
-            → OnErr result (Told (S.store self.new.store) (StoreStopped self.old.run.job before self.new.run.past self.new.run.notes)) }
+        ensures steps { IfOk result (λ tooks. IsDriven self.old.run.job self.old.run.conf
+            self.old.run.phase self.old.run.past events.items tooks.items self.new.run.phase self.new.run.past) }
+        ensures refused { OnErr result (IsStopped self.old.run.job self.old.run.conf
+            self.old.run.phase self.old.run.past events.items self.new.run.phase self.new.run.past) }
+        ensures store { (before : Named) → self.old.run.phase ≢ Over
+            → Told (S.store self.old.store) (SinksStand self.old.run.job before self.old.run.past self.old.run.notes)
+            → IfOk result (λ tooks. Told (S.store self.new.store)
+            (StoreDriven self.old.run.job before tooks.items self.new.run.past self.new.run.notes)) }
+        ensures store_refused { (before : Named) → self.old.run.phase ≢ Over
+            → Told (S.store self.old.store) (SinksStand self.old.run.job before self.old.run.past self.old.run.notes)
+            → OnErr result (Told (S.store self.new.store)
+            (StoreStopped self.old.run.job before self.new.run.past self.new.run.notes)) }
         ensures trace { IsTrace self.new.run.job self.new.run.conf self.new.run.past }
         ensures goes_on { self.new.run.phase ≡ Up → IsGoing self.new.run.job.plan self.new.run.conf self.new.run.past }
         // An end at a device comes where that device failed or was stopped, and never at a sure one.
-        ensures later { (S.faults self.old.store ≤ S.faults self.new.store) × (S.stops self.old.store ≤ S.stops self.new.store) }
-        ensures fault { IfOk result (λ tooks. FaultsAre (S.faults self.old.store) (S.stops self.old.store) (S.faults self.new.store) (S.stops self.new.store) tooks.items) }
+        ensures later { (S.faults self.old.store ≤ S.faults self.new.store)
+            × (S.stops self.old.store ≤ S.stops self.new.store) }
+        ensures fault { IfOk result
+            (λ tooks. FaultsAre (S.faults self.old.store) (S.stops self.old.store) (S.faults self.new.store)
+            (S.stops self.new.store) tooks.items) }
+        ensures lent { S.lent self.new.store ≡ S.lent self.old.store }
+        ensures lent_disk { D.lent self.new.disk ≡ D.lent self.old.disk }
         ensures stays_sure { S.is_sure self.old.store → S.is_sure self.new.store }
-        ensures sure { (before : Named) → self.old.run.phase ≢ Over → S.is_sure self.old.store → Told (S.store self.old.store) (Stands self.old.run.job before self.old.run.past self.old.run.notes)
+        ensures sure { (before : Named) → self.old.run.phase ≢ Over → S.is_sure self.old.store
+            → Told (S.store self.old.store) (SinksStand self.old.run.job before self.old.run.past self.old.run.notes)
             → IfOk result (λ tooks. AreNoFaults tooks.items) }
     {
         self.run.is_lawful();
@@ -132,7 +157,8 @@ impl<D: JournalDisk, S: OutputStore> World<D, S> {
     /// memory.
     pub fn take_order(&mut self) -> Option<Order>
         ensures none { result ≡ None ↔ self.old.run.queue ≡ [] }
-        ensures taken { self.new ≡ record self.old { run = record self.old.run { queue = tail_of self.old.run.queue } } }
+        ensures taken { self.new
+            ≡ record self.old { run = record self.old.run { queue = tail_of self.old.run.queue } } }
     {
         self.run.take_order()
     }

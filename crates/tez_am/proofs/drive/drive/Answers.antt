@@ -31,5 +31,6 @@ loop-turn-preserved g c = record {
       (moment g.S.OutputStore.store g.S.OutputStore.faults g.S.OutputStore.stops c.loop-turn.run c.loop-turn.store)
       (moment g.S.OutputStore.store g.S.OutputStore.faults g.S.OutputStore.stops c.turn.new.run c.turn.new.store)
       c.loop-turn.invariant.goes (c.in-Ok-None.ensures.goes_on c.in-Ok-None.field-0-is);
+  lent = c.in-Ok-None.ensures.lent ∙ c.loop-turn.invariant.lent;
   sure = λ sure. c.in-Ok-None.ensures.stays_sure (c.loop-turn.invariant.sure sure);
 }

@@ -1,7 +1,8 @@
 use Rattle.std.specs.Prelude.{◌≡◌, ◌<◌, length}
 use Rattle.std.proofs.Common.{ap, sym, ◌∙◌, arith, get_or}
 use Rattle.tez_world.proofs.FirstSinks.{first_found, first_passed}
-use Rattle.tez_world.proofs.Openings.{get_there, sink_there}
+use Rattle.tez_steps.proofs.Rows.{get_there}
+use Rattle.tez_world.proofs.Openings.{sink_there}
 use Rattle.tez_world.proofs.opening.first_published.Goals as goal
 
 pub returns-then-branch-clause-found : goal.returns-then-branch-clause-found
@@ -37,6 +38,7 @@ loop-v-preserved g c =
       same = c.in_ok-is_found.ensures.same ∙ c.loop-v.invariant.same;
       faults = c.in_ok-is_found.ensures.steady.0 ∙ c.loop-v.invariant.faults;
       stops = c.in_ok-is_found.ensures.steady.1 ∙ c.loop-v.invariant.stops;
+      lent = c.in_ok-is_found.ensures.lent ∙ c.loop-v.invariant.lent;
       sure = λ sure. c.in_ok-is_found.ensures.stays_sure (c.loop-v.invariant.sure sure);
       passed = λ s at. c.loop-v.invariant.passed s at ∙ first_passed g' s.publications c.loop-v.v x low there (sym (c.in_ok-is_found.ensures.found s (c.loop-v.invariant.same ∙ at)) ∙ c.if-branch.false);
     }

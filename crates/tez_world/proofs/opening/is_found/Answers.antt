@@ -1,4 +1,4 @@
-use Rattle.tez_world.proofs.Openings.{device_fault, device_steady}
+use Rattle.tez_steps.proofs.Devices.{device_fault, device_steady}
 use Rattle.tez_world.proofs.opening.is_found.Goals as goal
 
 pub returns-in-Some-clause-fault : goal.returns-in-Some-clause-fault

@@ -1,6 +1,7 @@
 use Rattle.std.specs.Prelude.{◌≡◌}
 use Rattle.std.proofs.Common.{subst}
-use Rattle.tez_world.specs.World.{RunParts, Up}
+use Rattle.tez_steps.specs.Step.{Up}
+use Rattle.tez_world.specs.World.{RunParts}
 use Rattle.tez_world.specs.Lawful.{IsTrace, IsGoing}
 use Rattle.tez_world.proofs.WellLaws.{trace_of, going}
 use Rattle.tez_world.proofs.job_run.JobRun.is_lawful.Goals as goal

@@ -4,7 +4,8 @@ use Rattle.std.proofs.lemmas.Grind.{common_steps}
 use Rattle.std.specs.Vec.Iter.{into_iter_items}
 use Rattle.tez_conf.specs.declared.values.ConfValues.{ConfValues}
 use Rattle.tez_meaning.specs.Jobs.{Job}
-use Rattle.tez_world.specs.World.{RunParts, StepIs}
+use Rattle.tez_steps.specs.Step.{StepIs}
+use Rattle.tez_world.specs.World.{RunParts}
 use Rattle.tez_world.specs.Driving.{IsStopped}
 use Rattle.tez_world.specs.Taking.{is_ended}
 use Rattle.tez_world.proofs.Driven.{went_on, driven_end, driven_over, stopped_here, ended_over, goes_phase, stood, stands_next, driven_next, stopped_stands, stopped_after, faults_next, no_faults_next}
@@ -52,6 +53,7 @@ loop-e-preserved g c =
       goes_on = c.in_ok-took.ensures.goes_on;
       later = (omega (arith, before_faults, more_faults), omega (arith, before_stops, more_stops));
       faults = faults_next _ _ _ _ _ _ c.loop-e.tooks.items c.push.new.self.items c.in_ok-took.took c.in_ok-push.ensures.items before_faults before_stops more_faults more_stops c.loop-e.invariant.faults c.in_ok-took.ensures.fault;
+      lent = c.in_ok-took.ensures.lent ∙ c.loop-e.invariant.lent;
       stays_sure = λ sure. c.in_ok-took.ensures.stays_sure (c.loop-e.invariant.stays_sure sure);
       sure = λ before going sure told.
           let k = c.loop-e.invariant.store before going told in

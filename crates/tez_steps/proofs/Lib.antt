@@ -1,0 +1,15 @@
+pub mod Rows
+pub mod Tellings
+pub mod Devices
+pub mod Taking
+pub mod Events
+pub mod Spent
+pub mod Failing
+pub mod Sending
+pub mod Storing
+pub mod NoteLaws
+pub mod Commits
+pub mod Reported
+pub mod ReportBytes
+pub mod StepLaws
+pub mod Steps

@@ -1,0 +1,6 @@
+pub mod Step
+pub mod Holds
+pub mod Parts
+pub mod Taking
+pub mod Committing
+pub mod Reporting
