@@ -1,0 +1,7 @@
+mod Small
+mod Numbers
+mod Prefixes
+mod Items
+mod OptionWords
+pub mod CommandWords
+mod Rows
