@@ -24,7 +24,7 @@ fn records_and_bodies(rt: HostRuntime) -> Result<(), AllocError> {
     };
     let text = Bytes::new(Vec::from_slice(alloc, b"{}")?);
     let sums = Sums::new(Vec::from_slice(alloc, &[(2, 258)])?);
-    let rows: [(JournalRecord, &[u8]); 7] = [
+    let rows: [(JournalRecord, &[u8]); 9] = [
         (JournalRecord::Submitted { text }, &[1, 123, 125]),
         (
             JournalRecord::Opened { epoch: Epoch(258) },
@@ -55,6 +55,13 @@ fn records_and_bodies(rt: HostRuntime) -> Result<(), AllocError> {
             &[6, 1, 0, 2, 0, 0, 0, 0, 0, 0, 0, 2, 1, 0, 0, 0, 0, 0, 0],
         ),
         (JournalRecord::Finished, &[7]),
+        (JournalRecord::Version, &[8, 2]),
+        (
+            JournalRecord::SinkPublished {
+                vertex: VertexId(258),
+            },
+            &[9, 2, 1],
+        ),
     ];
     for (record, bytes) in &rows {
         let written = encode(alloc, record)?;
@@ -66,7 +73,16 @@ fn records_and_bodies(rt: HostRuntime) -> Result<(), AllocError> {
 
 #[test]
 fn other_bytes_are_no_bodies(rt: HostRuntime) -> Result<(), AllocError> {
-    let others: [&[u8]; 6] = [&[], &[0], &[8], &[7, 7], &[2, 1], &[6, 1, 0]];
+    let others: [&[u8]; 8] = [
+        &[],
+        &[0],
+        &[8],
+        &[7, 7],
+        &[2, 1],
+        &[6, 1, 0],
+        &[8, 1],
+        &[9, 1],
+    ];
     for bytes in &others {
         assert!(rt; !is_body(rt.alloc(), bytes)?);
     }
