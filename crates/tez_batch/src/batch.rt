@@ -50,7 +50,8 @@ impl Batch {
     }
 
     fn put<G: Gate, R: Wait>(&mut self, desk: &mut Desk<'_, G, R>, order: Order) -> Turn
-        requires room { (vec_len self.old.queued < vec_capacity self.old.queued) × (vec_len self.old.own < vec_capacity self.old.own) }
+        requires room { (vec_len self.old.queued < vec_capacity self.old.queued)
+            × (vec_len self.old.own < vec_capacity self.old.own) }
         requires done { self.old.done ≡ true }
         ensures queued { (p : ℕ) → Gains (marked p self.old.queued.items) (marked p self.new.queued.items) (put_at desk.old p) (put_at desk.new p) }
         ensures got { (p : ℕ) → got_at desk.new p ≡ got_at desk.old p }

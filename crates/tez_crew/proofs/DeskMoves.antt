@@ -5,10 +5,10 @@ use native.Mathlib.Decide.{ℕ_discrete}
 use Rattle.tez_ids.specs.declared.AttemptId.{AttemptId}
 use Rattle.tez_orders.specs.Outcomes.{ReportParts}
 use Rattle.tez_crew.specs.declared.event_queue.EventView.{EventView}
-use Rattle.tez_crew.specs.declared.lane.Lane.{Lane}
+use Rattle.tez_crew.specs.declared.place_handle.PlaceHandle.{PlaceHandle}
 use Rattle.tez_crew.specs.Events.{getter, of}
 use Rattle.tez_crew.specs.Orders.{attempts}
-use Rattle.tez_crew.specs.Posts.{WasFull}
+use Rattle.tez_crew.specs.Containers.{WasFull}
 use Rattle.tez_orders.specs.Orders.{OrderParts}
 use Rattle.std.proofs.lemmas.List.{length-append, length-map}
 use Rattle.tez_crew.specs.Desks.{Adds, puts_of}
@@ -18,40 +18,40 @@ pub got_adds : (old new : EventView) (r : ReportParts) → new ≡ getter (old.g
 got_adds old new r is = let got = ap (λ v. v.got) is in
     (ap (of r.order.place) got ∙ more_here r.order.place old.got r refl, λ p apart. ap (of p) got ∙ more_else p old.got r (λ e. apart (sym e)))
 
-put_else : (lanes : List Lane) (i p : ℕ) (now : Lane) → p ≢ i → slice_index_or (puts_of (slice_set lanes i now)) p [] ≡ slice_index_or (puts_of lanes) p []
+put_else : (handles : List PlaceHandle) (i p : ℕ) (now : PlaceHandle) → p ≢ i → slice_index_or (puts_of (slice_set handles i now)) p [] ≡ slice_index_or (puts_of handles) p []
 put_else [] i p now apart = refl
 put_else (l ∷ ls) zero zero now apart = absurd (apart refl)
 put_else (l ∷ ls) zero (suc p) now apart = refl
 put_else (l ∷ ls) (suc i) zero now apart = refl
 put_else (l ∷ ls) (suc i) (suc p) now apart = put_else ls i p now (λ e. apart (ap suc e))
 
-put_here : (lanes : List Lane) (i : ℕ) (now : Lane) → i < length lanes → slice_index_or (puts_of (slice_set lanes i now)) i [] ≡ now.put.items
+put_here : (handles : List PlaceHandle) (i : ℕ) (now : PlaceHandle) → i < length handles → slice_index_or (puts_of (slice_set handles i now)) i [] ≡ now.put.items
 put_here [] i now low = absurd (omega arith)
 put_here (l ∷ ls) zero now low = refl
 put_here (l ∷ ls) (suc i) now low = put_here ls i now (omega arith)
 
-pub put_was : (lanes : List Lane) (i : ℕ) (was : Lane) → i < length lanes → was ≡ slice_index_or lanes i was → slice_index_or (puts_of lanes) i [] ≡ was.put.items
+pub put_was : (handles : List PlaceHandle) (i : ℕ) (was : PlaceHandle) → i < length handles → was ≡ slice_index_or handles i was → slice_index_or (puts_of handles) i [] ≡ was.put.items
 put_was [] i was low at = absurd (omega arith)
-put_was (l ∷ ls) zero was low at = ap (λ (w : Lane). w.put.items) (sym at)
+put_was (l ∷ ls) zero was low at = ap (λ (w : PlaceHandle). w.put.items) (sym at)
 put_was (l ∷ ls) (suc i) was low at = put_was ls i was (omega arith) at
 
-set_adds_here : (lanes : List Lane) (i : ℕ) (was now : Lane) (x : AttemptId) → i < length lanes → was ≡ slice_index_or lanes i was → now.put.items ≡ was.put.items ++ x ∷ []
-    → Adds i x (λ p. slice_index_or (puts_of lanes) p []) (λ p. slice_index_or (puts_of (slice_set lanes i now)) p [])
-set_adds_here lanes i was now x low at more = (put_here lanes i now low ∙ more ∙ ap (λ l. l ++ x ∷ []) (sym (put_was lanes i was low at)), λ p apart. put_else lanes i p now apart)
+set_adds_here : (handles : List PlaceHandle) (i : ℕ) (was now : PlaceHandle) (x : AttemptId) → i < length handles → was ≡ slice_index_or handles i was → now.put.items ≡ was.put.items ++ x ∷ []
+    → Adds i x (λ p. slice_index_or (puts_of handles) p []) (λ p. slice_index_or (puts_of (slice_set handles i now)) p [])
+set_adds_here handles i was now x low at more = (put_here handles i now low ∙ more ∙ ap (λ l. l ++ x ∷ []) (sym (put_was handles i was low at)), λ p apart. put_else handles i p now apart)
 
-pub set_adds : (lanes : List Lane) (i place : ℕ) (was now : Lane) (x : AttemptId) → i ≡ place → i < length lanes → was ≡ slice_index_or lanes i was → now.put.items ≡ was.put.items ++ x ∷ []
-    → Adds place x (λ p. slice_index_or (puts_of lanes) p []) (λ p. slice_index_or (puts_of (slice_set lanes i now)) p [])
-set_adds lanes i place was now x is low at more =
-    subst (λ n. Adds n x (λ p. slice_index_or (puts_of lanes) p []) (λ p. slice_index_or (puts_of (slice_set lanes i now)) p [])) is (set_adds_here lanes i was now x low at more)
+pub set_adds : (handles : List PlaceHandle) (i place : ℕ) (was now : PlaceHandle) (x : AttemptId) → i ≡ place → i < length handles → was ≡ slice_index_or handles i was → now.put.items ≡ was.put.items ++ x ∷ []
+    → Adds place x (λ p. slice_index_or (puts_of handles) p []) (λ p. slice_index_or (puts_of (slice_set handles i now)) p [])
+set_adds handles i place was now x is low at more =
+    subst (λ n. Adds n x (λ p. slice_index_or (puts_of handles) p []) (λ p. slice_index_or (puts_of (slice_set handles i now)) p [])) is (set_adds_here handles i was now x low at more)
 
-same_at : (lanes : List Lane) (i : ℕ) (was now : Lane) → i < length lanes → was ≡ slice_index_or lanes i was → now.put.items ≡ was.put.items
-    → (p : ℕ) → Dec (p ≡ i) → slice_index_or (puts_of (slice_set lanes i now)) p [] ≡ slice_index_or (puts_of lanes) p []
-same_at lanes i was now low at same p (yes e) = ap (λ k. slice_index_or (puts_of (slice_set lanes i now)) k []) e ∙ put_here lanes i now low ∙ same ∙ sym (put_was lanes i was low at) ∙ ap (λ k. slice_index_or (puts_of lanes) k []) (sym e)
-same_at lanes i was now low at same p (no apart) = put_else lanes i p now apart
+same_at : (handles : List PlaceHandle) (i : ℕ) (was now : PlaceHandle) → i < length handles → was ≡ slice_index_or handles i was → now.put.items ≡ was.put.items
+    → (p : ℕ) → Dec (p ≡ i) → slice_index_or (puts_of (slice_set handles i now)) p [] ≡ slice_index_or (puts_of handles) p []
+same_at handles i was now low at same p (yes e) = ap (λ k. slice_index_or (puts_of (slice_set handles i now)) k []) e ∙ put_here handles i now low ∙ same ∙ sym (put_was handles i was low at) ∙ ap (λ k. slice_index_or (puts_of handles) k []) (sym e)
+same_at handles i was now low at same p (no apart) = put_else handles i p now apart
 
-pub set_same : (lanes : List Lane) (i : ℕ) (was now : Lane) → i < length lanes → was ≡ slice_index_or lanes i was → now.put.items ≡ was.put.items
-    → (p : ℕ) → slice_index_or (puts_of (slice_set lanes i now)) p [] ≡ slice_index_or (puts_of lanes) p []
-set_same lanes i was now low at same p = same_at lanes i was now low at same p (ℕ_discrete p i)
+pub set_same : (handles : List PlaceHandle) (i : ℕ) (was now : PlaceHandle) → i < length handles → was ≡ slice_index_or handles i was → now.put.items ≡ was.put.items
+    → (p : ℕ) → slice_index_or (puts_of (slice_set handles i now)) p [] ≡ slice_index_or (puts_of handles) p []
+set_same handles i was now low at same p = same_at handles i was now low at same p (ℕ_discrete p i)
 
 pub was_full : (put : List AttemptId) → WasFull put → 64 ≤ length put
 was_full put full =

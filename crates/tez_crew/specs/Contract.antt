@@ -1,7 +1,7 @@
 -- What a crew's book says of what its dispatcher got.
 use Rattle.std.specs.Prelude.{◌≡◌, ℕ, ◌<◌, List, [], ◌++◌, length, slice_index_or, take}
 use Rattle.tez_ids.specs.declared.AttemptId.{AttemptId}
-use Rattle.tez_crew.specs.declared.book.Row.{Row}
+use Rattle.tez_crew.specs.declared.book.PlaceRecord.{PlaceRecord}
 use Rattle.tez_crew.specs.Books.{taken_of}
 use Rattle.tez_crew.specs.Lists.{Begins}
 
@@ -10,5 +10,5 @@ unfoldable pub KeepsBook : List AttemptId → List AttemptId → ℕ → List At
 KeepsBook before after taken put = (more : List AttemptId) × (after ≡ before ++ more) × Begins more (take taken put)
 
 -- what each container reported is a first part of what it took
-abbrev pub Reports : List (List AttemptId) → List Row → Type 0
+abbrev pub Reports : List (List AttemptId) → List PlaceRecord → Type 0
 Reports known rows = (length known ≡ length rows) × ((p : ℕ) → p < length rows → Begins (slice_index_or known p []) (taken_of rows p))

@@ -6,7 +6,7 @@ use tez_ids::AttemptId;
 /// One place: the attempts whose orders were put there, in order, and how many of these orders its
 /// container took.
 #[derive(Drop)]
-pub struct Row {
+pub struct PlaceRecord {
     pub(crate) put: Vec<AttemptId>,
     pub(crate) taken: u64,
     ghost within: { taken ≤ vec_len put },
@@ -16,7 +16,7 @@ pub struct Row {
 /// orders, from the first, its container took; and the attempts whose orders the dispatcher worked.
 #[derive(Drop)]
 pub struct CrewBook {
-    pub(crate) rows: Vec<Row>,
+    pub(crate) rows: Vec<PlaceRecord>,
     pub(crate) own: Vec<AttemptId>,
     ghost few: { length rows.items ≤ 64 },
 }

@@ -4,8 +4,8 @@ ghost use Rattle.crossbeam_queue.specs.Passes.{view};
 ghost use Rattle.tez_crew.specs.Desks.{places, put_at, got_at, own_of, Adds, MayBeOwn, IsRunningAt};
 
 use crate::desk::Desk;
-use crate::event_queue::GotReport;
-use crate::lane::{Refusal, Start};
+use crate::event_queue::PopReport;
+use crate::place_handle::{ContainerThread, Refusal};
 use std::sync::Wait;
 use tez_orders::{Order, Report, work};
 use tez_ports::Gate;
@@ -23,9 +23,13 @@ impl<'a, G: Gate, R: Wait> Desk<'a, G, R> {
     /// container that runs, the order is worked here and its report answered. The order comes back
     /// where there is no memory to note it; then nothing was done with it.
     pub fn put_order(&mut self, order: Order) -> Result<PutAnswer, Order>
-        ensures queued { result ≡ Ok PutAnswer.Queued → Adds order.place order.attempt (put_at self.old) (put_at self.new) × (own_of self.new ≡ own_of self.old) }
-        ensures own { (r : Report) → result ≡ Ok (PutAnswer.Own r) → (r.order ≡ order) × (own_of self.new ≡ own_of self.old ++ order.attempt ∷ []) × ((p : ℕ) → put_at self.new p ≡ put_at self.old p) × MayBeOwn self.old order.place }
-        ensures refused { IfErr result (λ o. (o ≡ order) × (own_of self.new ≡ own_of self.old) × ((p : ℕ) → put_at self.new p ≡ put_at self.old p)) }
+        ensures queued { result ≡ Ok PutAnswer.Queued
+            → Adds order.place order.attempt (put_at self.old) (put_at self.new) × (own_of self.new ≡ own_of self.old) }
+        ensures own { (r : Report) → result ≡ Ok (PutAnswer.Own r) → (r.order ≡ order)
+            × (own_of self.new ≡ own_of self.old ++ order.attempt ∷ [])
+            × ((p : ℕ) → put_at self.new p ≡ put_at self.old p) × MayBeOwn self.old order.place }
+        ensures refused { IfErr result (λ o. (o ≡ order) × (own_of self.new ≡ own_of self.old)
+            × ((p : ℕ) → put_at self.new p ≡ put_at self.old p)) }
         ensures got { (p : ℕ) → got_at self.new p ≡ got_at self.old p }
         ensures places { places self.new ≡ places self.old }
     {
@@ -40,24 +44,27 @@ impl<'a, G: Gate, R: Wait> Desk<'a, G, R> {
         ensures queued { OnOk result (Adds order.place order.attempt (put_at self.old) (put_at self.new)) }
         ensures refused { IfErr result (λ e. (e.1 ≡ order) × ((p : ℕ) → put_at self.new p ≡ put_at self.old p)) }
         ensures busy { IfErr result (λ e. e.0 ≡ Refusal.Busy → MayBeOwn self.old order.place) }
-        ensures rest { (own_of self.new ≡ own_of self.old) × ((p : ℕ) → got_at self.new p ≡ got_at self.old p) × (places self.new ≡ places self.old) }
+        ensures rest { (own_of self.new ≡ own_of self.old) × ((p : ℕ) → got_at self.new p ≡ got_at self.old p)
+            × (places self.new ≡ places self.old) }
     {
         let place = order.place() as usize;
-        if place >= self.lanes.len() {
+        if place >= self.handles.len() {
             return Err((Refusal::Busy, order));
         }
         let rt = self.rt;
-        let lane = &mut self.lanes[place];
-        if !lane.is_running() {
+        let place_handle = &mut self.handles[place];
+        if !place_handle.is_running() {
             return Err((Refusal::Busy, order));
         }
-        lane.offer(rt, order)
+        place_handle.offer(rt, order)
     }
 
     fn work_here(&mut self, order: Order) -> Result<PutAnswer, Order>
-        ensures own { IfOk result (λ a. (r : Report) × (a ≡ PutAnswer.Own r) × (r.order ≡ order) × (own_of self.new ≡ own_of self.old ++ order.attempt ∷ [])) }
+        ensures own { IfOk result (λ a. (r : Report) × (a ≡ PutAnswer.Own r) × (r.order ≡ order)
+            × (own_of self.new ≡ own_of self.old ++ order.attempt ∷ [])) }
         ensures refused { IfErr result (λ o. (o ≡ order) × (own_of self.new ≡ own_of self.old)) }
-        ensures rest { ((p : ℕ) → put_at self.new p ≡ put_at self.old p) × ((p : ℕ) → got_at self.new p ≡ got_at self.old p) × (places self.new ≡ places self.old) }
+        ensures rest { ((p : ℕ) → put_at self.new p ≡ put_at self.old p)
+            × ((p : ℕ) → got_at self.new p ≡ got_at self.old p) × (places self.new ≡ places self.old) }
     {
         if self.own.reserve(1).is_err() {
             return Err(order);
@@ -70,11 +77,13 @@ impl<'a, G: Gate, R: Wait> Desk<'a, G, R> {
 
     /// The next report, if one waits. The reports of a container come in the order of its orders.
     pub fn take_report(&mut self) -> Option<Report>
-        ensures some { (r : Report) → result ≡ Some r → Adds r.order.place r.order.attempt (got_at self.old) (got_at self.new) }
+        ensures some { (r : Report) → result ≡ Some r
+            → Adds r.order.place r.order.attempt (got_at self.old) (got_at self.new) }
         ensures none { result ≡ None → ((p : ℕ) → got_at self.new p ≡ got_at self.old p) }
-        ensures rest { ((p : ℕ) → put_at self.new p ≡ put_at self.old p) × (own_of self.new ≡ own_of self.old) × (places self.new ≡ places self.old) }
+        ensures rest { ((p : ℕ) → put_at self.new p ≡ put_at self.old p) × (own_of self.new ≡ own_of self.old)
+            × (places self.new ≡ places self.old) }
     {
         let rt = self.rt;
-        self.events.pop_as::<GotReport, R>(rt, &mut self.seen)
+        self.events.pop_as::<PopReport, R>(rt, &mut self.seen)
     }
 }

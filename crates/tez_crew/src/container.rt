@@ -5,8 +5,8 @@ ghost use Rattle.tez_crew.specs.Lists.{Begins};
 ghost use Rattle.tez_crew.specs.Orders.{taker};
 ghost use Rattle.tez_crew.specs.Events.{reporter};
 
-use crate::event_queue::{EventPass, EventQueue, Reported};
-use crate::order_queue::{OrderPass, OrderQueue, TookOrder};
+use crate::event_queue::{EventPass, EventQueue, PushReport};
+use crate::order_queue::{OrderPass, OrderQueue, PopOrder};
 use std::alloc::Global;
 use std::sync::Wait;
 use std::sync::atomic::{AtomicBool, Ordering};
@@ -17,31 +17,32 @@ use tez_ports::Gate;
 
 /// What the dispatcher and one container share.
 #[derive(Drop)]
-pub struct Station {
-    pub line: OrderQueue,
+pub struct Mailbox {
+    pub order_queue: OrderQueue,
     pub stop: AtomicBool,
 }
 
 /// Where a container works. As a promise: what its thread returns.
 #[derive(Clone, Copy)]
-pub struct Post<'a> {
-    pub station: &'a Station,
+pub struct Container<'a> {
+    pub mailbox: &'a Mailbox,
     pub events: &'a EventQueue,
     pub place: u32,
 }
 
-impl<'a> Promise<Worked> for Post<'a> {
+impl<'a> Promise<ContainerResult> for Container<'a> {
     ghost use Rattle.std.specs.Prelude.{◌≡◌};
     ghost use Rattle.crossbeam_queue.specs.Passes.{view, IsPassOf};
     ghost use Rattle.tez_crew.specs.Orders.{taker};
     ghost use Rattle.tez_crew.specs.Events.{reporter};
 
-    ghost kept_by = { λ p w. IsPassOf p.station.now.line w.orders × IsPassOf p.events.now w.reports × (view w.orders ≡ taker (view w.orders).taken) × (view w.reports ≡ reporter p.place (view w.reports).reported) };
+    ghost kept_by = { λ p w. IsPassOf p.mailbox.now.order_queue w.orders × IsPassOf p.events.now w.reports
+        × (view w.orders ≡ taker (view w.orders).taken) × (view w.reports ≡ reporter p.place (view w.reports).reported) };
 }
 
 /// Both passes of a container that ended: what it reported is a first part of what it took.
 #[derive(Drop)]
-pub struct Worked {
+pub struct ContainerResult {
     pub orders: OrderPass,
     pub reports: EventPass,
     pub taken: u64,
@@ -49,11 +50,11 @@ pub struct Worked {
     ghost in_order: { Begins (view reports).reported (view orders).taken },
 }
 
-fn end_work(orders: OrderPass, reports: EventPass, taken: u64) -> Worked
+fn container_result(orders: OrderPass, reports: EventPass, taken: u64) -> ContainerResult
     requires { (taken ≡ length (view orders).taken) × Begins (view reports).reported (view orders).taken }
     ensures { (result.orders ≡ orders) × (result.reports ≡ reports) × (result.taken ≡ taken) }
 {
-    Worked {
+    ContainerResult {
         orders,
         reports,
         taken,
@@ -62,20 +63,27 @@ fn end_work(orders: OrderPass, reports: EventPass, taken: u64) -> Worked
 
 /// Gives a report into the event queue, and tries again while it is full. False where the container
 /// is to stop: the report is dropped then.
-fn tell<R: Wait>(rt: &R, post: Post<'_>, pass: &mut EventPass, report: Report) -> bool
-    requires queue { IsPassOf post.events.now pass.old × (view pass.old ≡ reporter post.place (view pass.old).reported) }
-    requires place { report.order.place ≡ post.place }
-    ensures queue { IsPassOf post.entry.events.now pass.new }
-    ensures told { IsTrue result → view pass.new ≡ reporter post.entry.place ((view pass.old).reported ++ report.order.attempt ∷ []) }
+fn send_report<R: Wait>(
+    rt: &R,
+    container: Container<'_>,
+    pass: &mut EventPass,
+    report: Report,
+) -> bool
+    requires queue { IsPassOf container.events.now pass.old
+        × (view pass.old ≡ reporter container.place (view pass.old).reported) }
+    requires place { report.order.place ≡ container.place }
+    ensures queue { IsPassOf container.entry.events.now pass.new }
+    ensures told { IsTrue result
+        → view pass.new ≡ reporter container.entry.place ((view pass.old).reported ++ report.order.attempt ∷ []) }
     ensures dropped { IsFalse result → view pass.new ≡ view pass.old }
 {
     let mut report = report;
     for _ in rt.forever() {
-        match post.events.try_push_as::<Reported>(pass, report) {
+        match container.events.try_push_as::<PushReport>(pass, report) {
             Ok(()) => return true,
             Err(back) => report = back,
         }
-        if post.station.stop.load(Ordering::SeqCst) {
+        if container.mailbox.stop.load(Ordering::SeqCst) {
             return false;
         }
         thread::yield_now();
@@ -88,30 +96,36 @@ pub fn serve<G: Gate, R: Wait>(
     rt: &R,
     alloc: Global,
     gate: &G,
-    post: Post<'_>,
+    container: Container<'_>,
     mut orders: OrderPass,
     mut reports: EventPass,
-) -> Worked
-    requires passes { IsPassOf post.station.now.line orders × IsPassOf post.events.now reports }
-    requires fresh { (view orders ≡ taker []) × (view reports ≡ reporter post.place []) }
-    ensures passes { IsPassOf post.entry.station.now.line result.orders × IsPassOf post.entry.events.now result.reports }
-    ensures views { (view result.orders ≡ taker (view result.orders).taken) × (view result.reports ≡ reporter post.entry.place (view result.reports).reported) }
+) -> ContainerResult
+    requires passes { IsPassOf container.mailbox.now.order_queue orders × IsPassOf container.events.now reports }
+    requires fresh { (view orders ≡ taker []) × (view reports ≡ reporter container.place []) }
+    ensures passes { IsPassOf container.entry.mailbox.now.order_queue result.orders
+        × IsPassOf container.entry.events.now result.reports }
+    ensures views { (view result.orders ≡ taker (view result.orders).taken)
+        × (view result.reports ≡ reporter container.entry.place (view result.reports).reported) }
 {
     let mut taken = 0u64;
     for _ in rt.forever() {
-        if taken == u64::MAX || post.station.stop.load(Ordering::SeqCst) {
+        if taken == u64::MAX || container.mailbox.stop.load(Ordering::SeqCst) {
             break;
         }
-        let Some(order) = post.station.line.try_pop_as::<TookOrder>(&mut orders) else {
+        let Some(order) = container
+            .mailbox
+            .order_queue
+            .try_pop_as::<PopOrder>(&mut orders)
+        else {
             thread::yield_now();
             continue;
         };
         taken += 1;
         gate.enter(order.attempt());
-        let report = work(alloc, order).at_place(post.place);
-        if !tell(rt, post, &mut reports, report) {
+        let report = work(alloc, order).at_place(container.place);
+        if !send_report(rt, container, &mut reports, report) {
             break;
         }
     }
-    end_work(orders, reports, taken)
+    container_result(orders, reports, taken)
 }

@@ -4,7 +4,7 @@ ghost use Rattle.crossbeam_queue.specs.Passes.{view, IsPassOf};
 ghost use Rattle.tez_crew.specs.Events.{getter};
 
 use crate::event_queue::{EventPass, EventQueue};
-use crate::lane::Lane;
+use crate::place_handle::PlaceHandle;
 use std::alloc::Global;
 use tez_ids::AttemptId;
 
@@ -16,8 +16,9 @@ pub struct Desk<'a, G, R> {
     pub(crate) gate: &'a G,
     pub(crate) events: &'a EventQueue,
     pub(crate) seen: EventPass,
-    pub(crate) lanes: Vec<Lane<'a>>,
+    pub(crate) handles: Vec<PlaceHandle<'a>>,
     pub(crate) own: Vec<AttemptId>,
-    ghost sees: { IsPassOf events.now seen × (view seen ≡ getter (view seen).got (length lanes.items) []) },
-    ghost lined: { (i : ℕ) (d : _) → i < length lanes.items → ((slice_index_or lanes.items i d).post.place ≡ i) × ((slice_index_or lanes.items i d).post.events.now.table.shared.table_id ≡ events.now.table.shared.table_id) },
+    ghost sees: { IsPassOf events.now seen × (view seen ≡ getter (view seen).got (length handles.items) []) },
+    ghost lined: { (i : ℕ) (d : _) → i < length handles.items → ((slice_index_or handles.items i d).container.place ≡ i)
+        × ((slice_index_or handles.items i d).container.events.now.table.shared.table_id ≡ events.now.table.shared.table_id) },
 }

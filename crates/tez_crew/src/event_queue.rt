@@ -30,9 +30,9 @@ impl Protocol<Report, EventView> for EventRule {
 }
 
 /// A new container.
-pub struct Hired;
+pub struct SplitReporter;
 
-impl Split<EventView> for Hired {
+impl Split<EventView> for SplitReporter {
     ghost use Rattle.std.specs.Prelude.{◌+◌, []};
     ghost use Rattle.tez_crew.specs.Events.{getter, reporter};
 
@@ -42,9 +42,9 @@ impl Split<EventView> for Hired {
 }
 
 /// A container that ended hands over what it reported.
-pub struct Ended;
+pub struct JoinReporter;
 
-impl Join<EventView> for Ended {
+impl Join<EventView> for JoinReporter {
     ghost use Rattle.std.specs.Prelude.{◌++◌, ◌∷◌, []};
     ghost use Rattle.tez_crew.specs.Events.{getter, spent_view};
 
@@ -53,25 +53,25 @@ impl Join<EventView> for Ended {
     ghost spent = { spent_view };
 }
 
-pub struct Reported;
+pub struct PushReport;
 
-impl Outcome<Report, EventView> for Reported {
+impl Outcome<Report, EventView> for PushReport {
     ghost use Rattle.std.specs.Prelude.{◌≡◌, ◌++◌, ◌∷◌, []};
     ghost use Rattle.tez_crew.specs.Events.{reporter};
 
     ghost then = { λ v x w. w ≡ reporter v.place (v.reported ++ x.order.attempt ∷ []) };
 }
 
-pub struct GotReport;
+pub struct PopReport;
 
-impl Outcome<Report, EventView> for GotReport {
+impl Outcome<Report, EventView> for PopReport {
     ghost use Rattle.std.specs.Prelude.{◌≡◌, ◌++◌, ◌∷◌, []};
     ghost use Rattle.tez_crew.specs.Events.{getter};
 
     ghost then = { λ v x w. w ≡ getter (v.got ++ x ∷ []) v.made v.known };
 }
 
-impl Lesson<Report, EventView> for GotReport {
+impl Lesson<Report, EventView> for PopReport {
     ghost use Rattle.tez_crew.specs.Events.{KnowsAll};
 
     ghost fact = { λ v items. KnowsAll v items };

@@ -9,8 +9,8 @@ mod crew;
 mod desk;
 mod dispatch;
 mod event_queue;
-mod lane;
 mod order_queue;
+mod place_handle;
 mod readers;
 mod start;
 

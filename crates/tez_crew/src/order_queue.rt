@@ -25,9 +25,9 @@ impl Protocol<Order, OrderView> for OrderRule {
 }
 
 /// The dispatcher puts, the container takes.
-pub struct TwoEnds;
+pub struct PutterAndTaker;
 
-impl Split<OrderView> for TwoEnds {
+impl Split<OrderView> for PutterAndTaker {
     ghost use Rattle.tez_crew.specs.Orders.{putter, taker};
 
     ghost left = { λ v. putter v.put };
@@ -35,7 +35,7 @@ impl Split<OrderView> for TwoEnds {
     ghost right = { λ v. taker v.taken };
 }
 
-impl Join<OrderView> for TwoEnds {
+impl Join<OrderView> for PutterAndTaker {
     ghost use Rattle.std.specs.Prelude.{true, false, []};
     ghost use Rattle.tez_crew.specs.Orders.{order_view};
 
@@ -44,33 +44,33 @@ impl Join<OrderView> for TwoEnds {
     ghost spent = { order_view false false [] [] };
 }
 
-pub struct PutOrder;
+pub struct PushOrder;
 
-impl Outcome<Order, OrderView> for PutOrder {
+impl Outcome<Order, OrderView> for PushOrder {
     ghost use Rattle.std.specs.Prelude.{◌≡◌, ◌++◌, ◌∷◌, []};
     ghost use Rattle.tez_crew.specs.Orders.{putter};
 
     ghost then = { λ v x w. w ≡ putter (v.put ++ x.attempt ∷ []) };
 }
 
-impl Lesson<Order, OrderView> for PutOrder {
+impl Lesson<Order, OrderView> for PushOrder {
     ghost use Rattle.tez_crew.specs.Orders.{IsPartLeft};
 
     ghost fact = { λ v items. IsPartLeft v.put items };
 }
 
-pub struct TookOrder;
+pub struct PopOrder;
 
-impl Outcome<Order, OrderView> for TookOrder {
+impl Outcome<Order, OrderView> for PopOrder {
     ghost use Rattle.std.specs.Prelude.{◌≡◌, ◌++◌, ◌∷◌, []};
     ghost use Rattle.tez_crew.specs.Orders.{taker};
 
     ghost then = { λ v x w. w ≡ taker (v.taken ++ x.attempt ∷ []) };
 }
 
-pub struct AllOrders;
+pub struct PutIsTakenAndLeft;
 
-impl Lesson<Order, OrderView> for AllOrders {
+impl Lesson<Order, OrderView> for PutIsTakenAndLeft {
     ghost use Rattle.std.specs.Prelude.{◌≡◌, ◌++◌};
     ghost use Rattle.tez_crew.specs.Orders.{attempts};
 

@@ -3,14 +3,14 @@ ghost use Rattle.std.specs.Prelude.{◌≡◌, ℕ, ◌+◌, ◌<◌, ◌≤◌,
 ghost use Rattle.crossbeam_queue.specs.Passes.{view, IsPassOf, ruled_capacity};
 ghost use Rattle.tez_crew.specs.Orders.{order_view, taker};
 ghost use Rattle.tez_crew.specs.Events.{getter, reporter};
-ghost use Rattle.tez_crew.specs.Posts.{IsWorkedAt, IsSamePost};
-ghost use Rattle.tez_crew.specs.Openings.{IsOpen, IsFreshAt, IsLinedUp};
-ghost use Rattle.tez_crew.specs.declared.lane.Start.TheVariants.{Running, Refused};
+ghost use Rattle.tez_crew.specs.Containers.{IsResultOf, IsSameContainer};
+ghost use Rattle.tez_crew.specs.PreparedPlaces.{IsPrepared, IsFreshAt, IsLinedUp};
+ghost use Rattle.tez_crew.specs.declared.place_handle.ContainerThread.TheVariants.{Running, Refused};
 
-use crate::container::{Post, Station, serve};
-use crate::event_queue::{EventPass, EventQueue, Hired};
-use crate::lane::{Lane, Start};
-use crate::order_queue::{OrderPass, OrderQueue, TwoEnds};
+use crate::container::{Container, Mailbox, serve};
+use crate::event_queue::{EventPass, EventQueue, SplitReporter};
+use crate::order_queue::{OrderPass, OrderQueue, PutterAndTaker};
+use crate::place_handle::{ContainerThread, PlaceHandle};
 use std::alloc::{AllocError, Global};
 use std::sync::Wait;
 use std::sync::atomic::{AtomicBool, Ordering};
@@ -21,127 +21,143 @@ pub const WAITING_ORDERS: usize = 64;
 
 /// A place whose order queue is made, before its container is started.
 #[derive(Drop)]
-pub struct Opening {
+pub struct PreparedPlace {
     pub place: u32,
     pub pass: OrderPass,
 }
 
 /// A queue for each place.
-pub fn open_stations(
+pub fn make_mailboxes(
     alloc: Global,
     containers: u32,
-) -> Result<(Vec<Station>, Vec<Opening>), AllocError>
-    ensures { IfOk result (λ r. (length r.0.items ≡ containers) × (length r.1.items ≡ containers) × IsOpen r.0.items r.1.items) }
+) -> Result<(Vec<Mailbox>, Vec<PreparedPlace>), AllocError>
+    ensures { IfOk result (λ r. (length r.0.items ≡ containers) × (length r.1.items ≡ containers)
+        × IsPrepared r.0.items r.1.items) }
 {
-    let mut stations = Vec::new(alloc);
-    let mut openings = Vec::new(alloc);
+    let mut mailboxes = Vec::new(alloc);
+    let mut prepared_places = Vec::new(alloc);
     for place in 0..containers {
-        let (line, pass) = OrderQueue::ruled(alloc, WAITING_ORDERS)?;
+        let (order_queue, pass) = OrderQueue::ruled(alloc, WAITING_ORDERS)?;
         let stop = AtomicBool::new(false);
-        stations.push(Station { line, stop })?;
-        openings.push(Opening { place, pass })?;
+        mailboxes.push(Mailbox { order_queue, stop })?;
+        prepared_places.push(PreparedPlace { place, pass })?;
     }
-    Ok((stations, openings))
+    Ok((mailboxes, prepared_places))
 }
 
 /// Starts the container of a place. Where no thread can be made, its work is nothing.
-fn hire<'s, E, G: Gate + Sync, R: Threads + Wait + Sync>(
+fn start_container<'s, E, G: Gate + Sync, R: Threads + Wait + Sync>(
     scope: &Scope<'s, E>,
     rt: &'s R,
     alloc: Global,
     gate: &'s G,
-    post: Post<'s>,
+    container: Container<'s>,
     orders: OrderPass,
     reports: EventPass,
-) -> Start<'s>
-    requires passes { IsPassOf post.station.now.line orders × IsPassOf post.events.now reports }
-    requires fresh { (view orders ≡ taker []) × (view reports ≡ reporter post.place []) }
-    ensures runs { (h : _) → result ≡ Running h → IsSamePost h.promise post.entry }
-    ensures refused { (w : _) → result ≡ Refused w → IsWorkedAt post.entry w }
+) -> ContainerThread<'s>
+    requires passes { IsPassOf container.mailbox.now.order_queue orders × IsPassOf container.events.now reports }
+    requires fresh { (view orders ≡ taker []) × (view reports ≡ reporter container.place []) }
+    ensures runs { (h : _) → result ≡ Running h → IsSameContainer h.promise container.entry }
+    ensures refused { (w : _) → result ≡ Refused w → IsResultOf container.entry w }
 {
-    let Post {
-        station,
+    let Container {
+        mailbox,
         events,
         place,
-    } = post;
+    } = container;
     let started = scope.spawn_with(
-        post,
+        container,
         move ||
-            requires { IsPassOf station.now.line orders × IsPassOf events.now reports × (view orders ≡ taker []) × (view reports ≡ reporter place []) }
-            ensures { IsPassOf station.entry.now.line result.orders × IsPassOf events.entry.now result.reports × (view result.orders ≡ taker (view result.orders).taken) × (view result.reports ≡ reporter place (view result.reports).reported) }
+            requires { IsPassOf mailbox.now.order_queue orders × IsPassOf events.now reports × (view orders ≡ taker [])
+                × (view reports ≡ reporter place []) }
+            ensures { IsPassOf mailbox.entry.now.order_queue result.orders × IsPassOf events.entry.now result.reports
+                × (view result.orders ≡ taker (view result.orders).taken)
+                × (view result.reports ≡ reporter place (view result.reports).reported) }
         {
-            let post = Post {
-                station,
+            let container = Container {
+                mailbox,
                 events,
                 place,
             };
-            serve(rt, alloc, gate, post, orders, reports)
+            serve(rt, alloc, gate, container, orders, reports)
         },
     );
     match started {
-        Ok(thread) => Start::Running(thread),
+        Ok(thread) => ContainerThread::Running(thread),
         Err(refused) => {
-            post.station.stop.store(true, Ordering::SeqCst);
-            Start::Refused((refused.value)())
+            container.mailbox.stop.store(true, Ordering::SeqCst);
+            ContainerThread::Refused((refused.value)())
         }
     }
 }
 
 /// Starts the container of a place, and gives the dispatcher's side of it.
-fn open_lane<'s, E, G: Gate + Sync, R: Threads + Wait + Sync>(
+fn start_place<'s, E, G: Gate + Sync, R: Threads + Wait + Sync>(
     scope: &Scope<'s, E>,
     rt: &'s R,
     alloc: Global,
     gate: &'s G,
-    station: &'s Station,
-    opening: Opening,
+    mailbox: &'s Mailbox,
+    prepared_place: PreparedPlace,
     events: &'s EventQueue,
     seen: &mut EventPass,
-) -> Lane<'s>
-    requires opening { IsFreshAt station.now opening }
-    requires seen { IsPassOf events.now seen.old × (view seen.old ≡ getter [] opening.place []) }
-    ensures lane { (result.post.place ≡ opening.place) × (result.post.events.now.table.shared.table_id ≡ events.now.table.shared.table_id) × (result.put.items ≡ []) }
-    ensures seen { IsPassOf events.now seen.new × (view seen.new ≡ getter [] (opening.place + 1) []) }
+) -> PlaceHandle<'s>
+    requires prepared_place { IsFreshAt mailbox.now prepared_place }
+    requires seen { IsPassOf events.now seen.old × (view seen.old ≡ getter [] prepared_place.place []) }
+    ensures place_handle { (result.container.place ≡ prepared_place.place)
+        × (result.container.events.now.table.shared.table_id ≡ events.now.table.shared.table_id)
+        × (result.put.items ≡ []) }
+    ensures seen { IsPassOf events.now seen.new × (view seen.new ≡ getter [] (prepared_place.place + 1) []) }
 {
-    let Opening { place, mut pass } = opening;
-    let orders = station.line.another::<TwoEnds>(&mut pass);
-    let reports = events.another::<Hired>(seen);
-    let post = Post {
-        station,
+    let PreparedPlace { place, mut pass } = prepared_place;
+    let orders = mailbox.order_queue.another::<PutterAndTaker>(&mut pass);
+    let reports = events.another::<SplitReporter>(seen);
+    let container = Container {
+        mailbox,
         events,
         place,
     };
-    let start = hire(scope, rt, alloc, gate, post, orders, reports);
-    Lane {
-        post,
+    let start = start_container(scope, rt, alloc, gate, container, orders, reports);
+    PlaceHandle {
+        container,
         pass,
         put: Vec::new(alloc),
         start,
     }
 }
 
-/// Starts all containers. The lanes have their room.
-pub fn open_lanes<'s, E, G: Gate + Sync, R: Threads + Wait + Sync>(
+/// Starts all containers. The handles have their room.
+pub fn start_places<'s, E, G: Gate + Sync, R: Threads + Wait + Sync>(
     scope: &Scope<'s, E>,
     rt: &'s R,
     alloc: Global,
     gate: &'s G,
-    stations: &'s Vec<Station>,
-    openings: Vec<Opening>,
+    mailboxes: &'s Vec<Mailbox>,
+    prepared_places: Vec<PreparedPlace>,
     events: &'s EventQueue,
     mut seen: EventPass,
-    mut lanes: Vec<Lane<'s>>,
-) -> (Vec<Lane<'s>>, EventPass)
-    requires open { IsOpen stations.now.items openings.items × (length stations.now.items ≡ length openings.items) }
+    mut handles: Vec<PlaceHandle<'s>>,
+) -> (Vec<PlaceHandle<'s>>, EventPass)
+    requires open { IsPrepared mailboxes.now.items prepared_places.items
+        × (length mailboxes.now.items ≡ length prepared_places.items) }
     requires seen { IsPassOf events.now seen × (view seen ≡ getter [] 0 []) }
-    requires room { (lanes.items ≡ []) × (length openings.items ≤ vec_capacity lanes) }
-    ensures lanes { (length result.0.items ≡ length openings.items) × IsLinedUp events.now result.0.items }
-    ensures seen { IsPassOf events.now result.1 × (view result.1 ≡ getter [] (length openings.items) []) }
+    requires room { (handles.items ≡ []) × (length prepared_places.items ≤ vec_capacity handles) }
+    ensures handles { (length result.0.items ≡ length prepared_places.items) × IsLinedUp events.now result.0.items }
+    ensures seen { IsPassOf events.now result.1 × (view result.1 ≡ getter [] (length prepared_places.items) []) }
 {
-    for opening in openings {
-        let station = &stations[opening.place as usize];
-        let lane = open_lane(scope, rt, alloc, gate, station, opening, events, &mut seen);
-        lanes.push_reserved(lane);
+    for prepared_place in prepared_places {
+        let mailbox = &mailboxes[prepared_place.place as usize];
+        let place_handle = start_place(
+            scope,
+            rt,
+            alloc,
+            gate,
+            mailbox,
+            prepared_place,
+            events,
+            &mut seen,
+        );
+        handles.push_reserved(place_handle);
     }
-    (lanes, seen)
+    (handles, seen)
 }
